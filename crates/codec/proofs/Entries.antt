@@ -1,0 +1,45 @@
+-- What the step's answer says of the readable entries from its cursor on: an entry is the first of them, and the next cursor has the
+-- rest; else there is none, whether none is counted any more or one is not readable. Assumes nothing.
+use Prim.Native.Nat.{ℕ, zero, suc, _+_, _-_, _≤_}
+use native.Mathlib.Omega.{arith}
+use mathlib.Core.Path.{_≡_, refl}
+use mathlib.Core.Bool.{Bool, true, false}
+use mathlib.Core.List.{[], _∷_}
+use lib.Dec.{leb, eqb}
+use lib.ListN.{length, getD, take, drop}
+use borrow.Author.Tests.{ne-eqb, leb-true}
+use Rattle.laws.specs.Pick.{pick}
+use Rattle.codec.specs.Bytes.{Bytes, le16At}
+use Rattle.codec.specs.Dcf.{sizeAt, behind, sentAs, entriesFrom, dcfStep}
+use Rattle.codec.specs.declared.dcf.DcfCursor.{DcfCursor}
+use Rattle.codec.specs.declared.dcf.DcfStep.{DcfStep}
+
+abbrev pub Stepped : Bytes → ℕ → ℕ → DcfStep → Type 0
+Stepped b at left (DcfStep.Entry index sub start len next) =
+    (entriesFrom left b at ≡ sentAs index sub (take len (drop start b)) ∷ entriesFrom (next .left) b (next .at))
+    × (left ≡ suc (next .left))
+    × (start + len ≤ length b)
+Stepped b at left DcfStep.End = (entriesFrom left b at ≡ []) × (left ≡ 0)
+Stepped b at left DcfStep.Unreadable = (entriesFrom left b at ≡ []) × (left ≡ 0 → ⊥)
+
+step-at : (b : Bytes) (at left : ℕ) → Stepped b at left (dcfStep b (record { at = at; left = left }))
+unfolding dcfStep pick
+step-at b at zero = (refl, refl)
+step-at b at (suc k) = rw (ne-eqb (suc k) 0 (λ z. omega arith)) (go (leb (at + 7) (length b)) (leb (behind b at) (length b)) refl refl)
+  where
+    less : suc k - 1 ≡ k
+    less = omega arith
+
+    go : (p q : Bool) → leb (at + 7) (length b) ≡ p → leb (behind b at) (length b) ≡ q
+        → Stepped b at (suc k)
+        (pick p
+        (pick q
+        (DcfStep.Entry (le16At b at) (getD b (at + 2) 0) (at + 7) (sizeAt b at) (record { at = behind b at; left = suc k - 1 }))
+        DcfStep.Unreadable)
+        DcfStep.Unreadable)
+    go false q e f = (rw e, λ z. omega arith)
+    go true false e f = (rw (e, f), λ z. omega arith)
+    go true true e f = (rw (e, f, less), omega arith, leb-true _ _ f)
+
+pub stepped : (b : Bytes) (c : DcfCursor) → Stepped b (c .at) (c .left) (dcfStep b c)
+stepped b c = step-at b (c .at) (c .left)

@@ -1,0 +1,5 @@
+pub mod Commands
+pub mod Entries
+pub mod Reading
+pub mod RoundTrips
+pub mod Writing

@@ -1,0 +1,14 @@
+-- `codec::command::header_at` meets its contract: the record's fields are those of `headerAt`. Assumes nothing.
+use borrow.Author.Needs.{needs}
+use Rattle.codec.proofs.command.header_at.Statement.{statement}
+use Rattle.codec.proofs.command.header_at.Tie as tie
+
+pub header-at-spec : {M : Type 1} → statement M
+header-at-spec =
+    tie.close
+    (tie.spec
+    (λ c. search needs)
+    (λ c. search needs)
+    (λ c κs. search needs)
+    (λ c κs. search needs)
+    (λ c. cc))

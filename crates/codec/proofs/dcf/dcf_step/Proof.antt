@@ -1,0 +1,31 @@
+-- `codec::dcf::dcf_step` meets its contract: each return is one case of `dcfStep`. Assumes nothing.
+use native.Mathlib.Omega.{arith}
+use Rattle.codec.proofs.Reading.{dcf-end, dcf-no-head, dcf-no-data, dcf-entry}
+use borrow.Author.Needs.{needs}
+use Rattle.codec.proofs.dcf.dcf_step.Statement.{statement}
+use Rattle.codec.proofs.dcf.dcf_step.Tie as tie
+
+returns-5 : tie.Need-returns-5
+returns-5 c =
+    dcf-entry _ _ _ _ (c .before .le16-at .ensures) (c .before .before .before .le32-at .ensures) (omega arith) (omega arith)
+
+pub dcf-step-spec : {M : Type 1} → statement M
+dcf-step-spec =
+    tie.close
+    (tie.spec
+    (λ c. dcf-end _ _ (omega arith))
+    (λ c. dcf-no-head _ _ (omega arith) (omega arith))
+    (λ c. search needs)
+    (λ c. dcf-no-head _ _ (omega arith) (omega arith))
+    (λ c. search needs)
+    (λ c. search needs)
+    (λ c κs. search needs)
+    (λ c. search needs)
+    (λ c. search needs)
+    (λ c. dcf-no-data _ _ _ (c .before .le32-at .ensures) (omega arith) (omega arith) (omega arith))
+    (λ c κs. search needs)
+    (λ c. search needs)
+    (λ c. search needs)
+    (λ c. search needs)
+    (λ c. search needs)
+    returns-5)

@@ -1,0 +1,9 @@
+pub mod Bytes
+pub mod Command
+pub mod Dcf
+pub mod Exports
+pub mod ExportsReaders
+pub mod Refusals
+pub mod Request
+pub mod Sequence
+pub mod Writing

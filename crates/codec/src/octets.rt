@@ -1,0 +1,56 @@
+// Numbers in bytes, low byte first; bytes put into a buffer; and a part of some bytes.
+ghost use mathlib.Core.Path.{_≡_};
+ghost use Prim.Native.Nat.{_+_, _<_, _≤_};
+ghost use lib.ListN.{length};
+ghost use Rattle.codec.specs.Bytes.{le16At, le32At, partAt, placed};
+
+fn wide16(x: u8) -> u16
+    ensures { λ r. ⌜ (r ≡ x) × (r < 256) ⌝ }
+{
+    x as u16
+}
+
+fn wide32(x: u16) -> u32
+    ensures { λ r. ⌜ (r ≡ x) × (r < 65536) ⌝ }
+{
+    x as u32
+}
+
+// The number of two bytes at a place.
+pub(crate) fn le16_at(b: &[u8], at: usize) -> u16
+    requires { ⌜ at + 2 ≤ length (now b) ⌝ }
+    ensures { λ r. ⌜ r ≡ le16At (now (b .entry)) at ⌝ }
+{
+    wide16(b[at]) + wide16(b[at + 1]) * 256
+}
+
+// The number of four bytes at a place.
+pub(crate) fn le32_at(b: &[u8], at: usize) -> u32
+    requires { ⌜ at + 4 ≤ length (now b) ⌝ }
+    ensures { λ r. ⌜ r ≡ le32At (now (b .entry)) at ⌝ }
+{
+    wide32(le16_at(b, at)) + wide32(le16_at(b, at + 2)) * 65536
+}
+
+// Puts the bytes of src into buffer, from at on.
+pub(crate) fn put_bytes(buffer: &mut [u8], at: usize, src: &[u8])
+    requires { ⌜ at + length (now src) ≤ length (now buffer) ⌝ }
+    ensures { λ _. ⌜ now (buffer .exit) ≡ placed (now (buffer .entry)) at (now (src .entry)) ⌝ }
+{
+    bytes::copy(src, &mut buffer[at..]);
+}
+
+// The part of len bytes that starts at a place: a command's payload, a request's data or a DCF entry's data, where its reader found
+// it. One that does not lie within the bytes comes back empty.
+pub fn part(b: &[u8], start: usize, len: usize) -> &[u8]
+    ensures { λ r. ⌜ now r ≡ partAt (now (b .entry)) start len ⌝ }
+{
+    if b.len() < start {
+        return &b[0..0];
+    }
+    if b.len() - start < len {
+        return &b[0..0];
+    }
+    let end = start + len;
+    &b[start..end]
+}

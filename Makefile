@@ -7,7 +7,7 @@ test:
 
 # The static library for C and Rust: target/staticlib/libcodec.a, with include/ostelumiv.h.
 lib:
-	rt staticlib codec
+	@rt staticlib codec 1>&2
 
 # Frames as hex on standard input, one a line, shown in words.
 display: lib

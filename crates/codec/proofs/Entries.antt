@@ -1,18 +1,20 @@
 -- What the step's answer says of the readable entries from its cursor on: an entry is the first of them, and the next cursor has the
 -- rest; else there is none, whether none is counted any more or one is not readable. Assumes nothing.
-use Prim.Native.Nat.{ℕ, zero, suc, _+_, _-_, _≤_}
+use Prim.Native.Nat.{ℕ, zero, suc, _+_, _-_, _<_, _≤_}
 use native.Mathlib.Omega.{arith}
 use mathlib.Core.Path.{_≡_, refl}
 use mathlib.Core.Bool.{Bool, true, false}
 use mathlib.Core.List.{[], _∷_}
-use lib.Dec.{leb, eqb}
+use lib.Dec.{ltb, leb, eqb}
 use lib.ListN.{length, getD, take, drop}
-use borrow.Author.Tests.{ne-eqb, leb-true}
+use borrow.Author.Tests.{ne-eqb, leb-true, ltb-true, ltb-false}
 use Rattle.laws.specs.Pick.{pick}
 use Rattle.codec.specs.Bytes.{Bytes, le16At}
-use Rattle.codec.specs.Dcf.{sizeAt, behind, sentAs, entriesFrom, dcfStep}
+use Rattle.codec.specs.Dcf.{countOf, dcfCount, sizeAt, behind, sentAs, entriesFrom, dcfStep}
+use Rattle.codec.specs.declared.dcf.DcfCount.{DcfCount}
 use Rattle.codec.specs.declared.dcf.DcfCursor.{DcfCursor}
 use Rattle.codec.specs.declared.dcf.DcfStep.{DcfStep}
+use Rattle.codec.specs.declared.refusal.Refusal.{Refusal}
 
 abbrev pub Stepped : Bytes → ℕ → ℕ → DcfStep → Type 0
 Stepped b at left (DcfStep.Entry index sub start len next) =
@@ -43,3 +45,17 @@ step-at b at (suc k) = rw (ne-eqb (suc k) 0 (λ z. omega arith)) (go (leb (at + 
 
 pub stepped : (b : Bytes) (c : DcfCursor) → Stepped b (c .at) (c .left) (dcfStep b c)
 stepped b c = step-at b (c .at) (c .left)
+
+-- what the count's answer says of the bytes
+abbrev pub Counted : Bytes → DcfCount → Type 0
+Counted b (DcfCount.Count n) = (4 ≤ length b) × (n ≡ countOf b)
+Counted b (DcfCount.Refused r) = length b < 4
+
+pub counted : (b : Bytes) → Counted b (dcfCount b)
+unfolding dcfCount pick
+counted b = go (ltb (length b) 4) refl
+  where
+    go : (t : Bool) → ltb (length b) 4 ≡ t
+        → Counted b (pick t (DcfCount.Refused Refusal.DcfTooShort) (DcfCount.Count (countOf b)))
+    go true e = ltb-true _ _ e
+    go false e = (ltb-false _ _ e, refl)

@@ -9,7 +9,7 @@ use lib.Seq.{sets-eq, take-at, drop-append-add, drop-drop}
 use Rattle.laws.proofs.Picks.{within, beyond}
 use Rattle.codec.specs.Bytes.{Bytes, placed}
 use Rattle.codec.specs.Command.{fixedHead, sizeOctets, afterHead, commandHead, commandBytes, headLength}
-use Rattle.codec.specs.Writing.{written, bufferAfter}
+use Rattle.codec.specs.Writing.{written, bufferAfter, putAnswer, putBuffer}
 use Rattle.codec.specs.declared.command.DataSize.{DataSize}
 use Rattle.codec.specs.declared.command.SdoCommand.{SdoCommand}
 use Rattle.codec.specs.declared.command.Segmentation.{Segmentation}
@@ -27,6 +27,18 @@ module _ (bytes buffer : Bytes) where
       → (Written.Bytes n ≡ written bytes buffer) × (after ≡ bufferAfter bytes buffer)
   unfolding written bufferAfter
   write-done n after e h k = (within _ _ _ _ h (rw e), within _ _ _ _ h k)
+
+-- bytes put at a place, refused and done
+module _ (buffer : Bytes) (at : ℕ) (bytes : Bytes) where
+  pub put-refused : length buffer < at + length bytes
+      → (Written.Refused Refusal.BufferTooShort ≡ putAnswer buffer at bytes) × (buffer ≡ putBuffer buffer at bytes)
+  unfolding putAnswer putBuffer
+  put-refused h = (beyond _ _ _ _ h refl, beyond _ _ _ _ h refl)
+
+  pub put-done : (after : Bytes) → at + length bytes ≤ length buffer → after ≡ placed buffer at bytes
+      → (Written.Bytes (length bytes) ≡ putAnswer buffer at bytes) × (after ≡ putBuffer buffer at bytes)
+  unfolding putAnswer putBuffer
+  put-done after h e = (within _ _ _ _ h refl, within _ _ _ _ h e)
 
 -- four stores in a row write four bytes
 pub write-four : (bytes buffer : Bytes) (a b c d : ℕ) → 4 ≤ length buffer → a ∷ b ∷ c ∷ d ∷ [] ≡ bytes
@@ -46,6 +58,16 @@ placed-more buffer a b at e =
     let u : drop (at + length b) (a ++ drop (length a) buffer) ≡ drop (length (a ++ b)) buffer =
     rw (e, drop-append-add, drop-drop, length-append) in
     rw (placed-front buffer a, placed-front buffer (a ++ b), t, u, append-assoc a b)
+
+-- bytes that fit are put, and put at the start they are a write
+pub put-fits : (buffer bytes : Bytes) (at : ℕ) → at + length bytes ≤ length buffer → putBuffer buffer at bytes ≡ placed buffer at bytes
+unfolding putBuffer
+put-fits buffer bytes at h = sym (within _ _ _ _ h refl)
+
+pub put-front : (buffer bytes : Bytes)
+    → (putAnswer buffer 0 bytes ≡ written bytes buffer) × (putBuffer buffer 0 bytes ≡ bufferAfter bytes buffer)
+unfolding putAnswer putBuffer written bufferAfter
+put-front buffer bytes = (rw zero-add, rw (placed-front, zero-add))
 
 -- what is put at the start is what a write leaves
 pub write-placed : (bytes buffer : Bytes) (n : ℕ) (after : Bytes) → n ≡ length bytes → n ≤ length buffer → after ≡ placed buffer 0 bytes

@@ -5,8 +5,9 @@ use Prim.Native.Nat.{ℕ, _+_, _-_, _*_, _/_, _%_}
 use lib.Dec.{ltb, eqb}
 use lib.ListN.{length, getD}
 use Rattle.laws.specs.Pick.{pick}
-use Rattle.codec.specs.Bytes.{Bytes, le16At}
+use Rattle.codec.specs.Bytes.{Bytes, le16At, le32At}
 use Rattle.codec.specs.declared.refusal.Refusal.{Refusal}
+use Rattle.codec.specs.declared.request.AbortCode.{AbortCode}
 use Rattle.codec.specs.declared.request.MultipleParamFound.{MultipleParamFound}
 use Rattle.codec.specs.declared.request.ReadByIndexRead.{ReadByIndexRead}
 use Rattle.codec.specs.declared.request.ReadMultipleParamRead.{ReadMultipleParamRead}
@@ -45,3 +46,7 @@ multipleParamEntry p place =
     (MultipleParamFound.Entry (record { index = le16At p (place * 4); «sub_index» = getD p (place * 4 + 2) 0 }))
     MultipleParamFound.NoneSuch)
     MultipleParamFound.NoneSuch
+
+-- the code of an abort: the number of its first four bytes, or none if under 4
+abbrev pub abortCode : Bytes → AbortCode
+abortCode p = pick (ltb (length p) 4) AbortCode.NoCode (AbortCode.Code (le32At p 0))

@@ -207,7 +207,7 @@ pub extern "C" fn ostelumiv_dcf_step(dcf: &[u8], at: usize, left: u32) -> StepFi
             sub_index,
             index,
             start,
-            len,
+            len: len as usize,
             next_at: next.at,
             next_left: next.left,
         },

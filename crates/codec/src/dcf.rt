@@ -22,7 +22,7 @@ pub enum DcfStep {
         index: u16,
         sub_index: u8,
         start: usize,
-        len: usize,
+        len: u32,
         next: DcfCursor,
     },
     End,
@@ -55,8 +55,9 @@ pub fn dcf_step(b: &[u8], c: DcfCursor) -> DcfStep
         return DcfStep::Unreadable;
     }
     let start = at + 7;
-    let len = le32_at(b, at + 3) as usize;
-    if b.len() - start < len {
+    let len = le32_at(b, at + 3);
+    let size = len as usize;
+    if b.len() - start < size {
         return DcfStep::Unreadable;
     }
     DcfStep::Entry {
@@ -65,7 +66,7 @@ pub fn dcf_step(b: &[u8], c: DcfCursor) -> DcfStep
         start,
         len,
         next: DcfCursor {
-            at: start + len,
+            at: start + size,
             left: left - 1,
         },
     }

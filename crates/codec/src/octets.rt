@@ -3,6 +3,9 @@ ghost use mathlib.Core.Path.{_≡_};
 ghost use Prim.Native.Nat.{_+_, _<_, _≤_};
 ghost use lib.ListN.{length};
 ghost use Rattle.codec.specs.Bytes.{le16At, le32At, partAt, placed};
+ghost use Rattle.codec.specs.Writing.{putAnswer, putBuffer};
+use crate::refusal::Refusal;
+use crate::sequence::Written;
 
 fn wide16(x: u8) -> u16
     ensures { λ r. ⌜ (r ≡ x) × (r < 256) ⌝ }
@@ -38,6 +41,21 @@ pub(crate) fn put_bytes(buffer: &mut [u8], at: usize, src: &[u8])
     ensures { λ _. ⌜ now (buffer .exit) ≡ placed (now (buffer .entry)) at (now (src .entry)) ⌝ }
 {
     bytes::copy(src, &mut buffer[at..]);
+}
+
+// Puts the bytes of src into the buffer from a place on, and leaves the rest as it was; 1, and nothing is put, where they go past it.
+pub fn put(buffer: &mut [u8], at: usize, src: &[u8]) -> Written
+    ensures { λ r. ⌜ r ≡ putAnswer (now (buffer .entry)) at (now (src .entry)) ⌝ }
+    ensures { λ _. ⌜ now (buffer .exit) ≡ putBuffer (now (buffer .entry)) at (now (src .entry)) ⌝ }
+{
+    if buffer.len() < at {
+        return Written::Refused(Refusal::BufferTooShort);
+    }
+    if buffer.len() - at < src.len() {
+        return Written::Refused(Refusal::BufferTooShort);
+    }
+    put_bytes(buffer, at, src);
+    Written::Bytes(src.len())
 }
 
 // The part of len bytes that starts at a place: a command's payload, a request's data or a DCF entry's data, where its reader found

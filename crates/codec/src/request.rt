@@ -1,5 +1,5 @@
-// The request readers: what the payload of a ReadByIndex, WriteByIndex, WriteAllByIndex or ReadMultipleParam command asks for. The
-// names are those of the repository's command/base.rs. A request's data stay where they are, a part of the payload.
+// The request readers: what the payload of a ReadByIndex, WriteByIndex, WriteAllByIndex or ReadMultipleParam command asks for, and the
+// code in an abort's. The names are those of the repository's command/base.rs. A request's data stay where they are, a part of the payload.
 ghost use mathlib.Core.Path.{_≡_};
 ghost use Rattle.codec.specs.Request.{
   readByIndex,
@@ -7,8 +7,10 @@ ghost use Rattle.codec.specs.Request.{
   writeAllByIndex,
   readMultipleParam,
   multipleParamEntry,
+  abortCode,
 };
 use crate::octets::le16_at;
+use crate::octets::le32_at;
 use crate::refusal::Refusal;
 
 pub struct ReadByIndexRequest {
@@ -59,6 +61,12 @@ pub struct MultipleParamEntry {
 pub enum MultipleParamFound {
     Entry(MultipleParamEntry),
     NoneSuch,
+}
+
+// The code of an abort, or none where its payload has under four bytes.
+pub enum AbortCode {
+    Code(u32),
+    NoCode,
 }
 
 impl ReadByIndexRequest {
@@ -134,4 +142,14 @@ pub fn multiple_param_entry(payload: &[u8], place: usize) -> MultipleParamFound
         index: le16_at(payload, at),
         sub_index: payload[at + 2],
     })
+}
+
+// The code that the payload of an abort has.
+pub fn abort_code(payload: &[u8]) -> AbortCode
+    ensures { λ r. ⌜ r ≡ abortCode (now (payload .entry)) ⌝ }
+{
+    if payload.len() < 4 {
+        return AbortCode::NoCode;
+    }
+    AbortCode::Code(le32_at(payload, 0))
 }

@@ -14,6 +14,7 @@ ostelumiv-dcf-step-spec =
     (λ c. search needs)
     (λ c. search needs)
     (λ c. search needs)
+    (λ c. search needs)
     (λ c. told stepFields (c .before .before .before .dcf-step .ensures) (c .before .index .given .1) refl)
     (λ c. told stepFields (c .before .before .dcf-step .ensures) (c .enum-told .given .1) refl)
     (λ c. told stepFields (c .before .before .dcf-step .ensures) (c .enum-told2 .given .1) refl))

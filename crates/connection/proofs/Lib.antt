@@ -1,0 +1,3 @@
+pub mod StartCases
+pub mod Storing
+pub mod Writing

@@ -1,0 +1,27 @@
+-- `connection::ask::later_command` meets its contract: its parts are what the callees make. Assumes nothing.
+use borrow.Author.Needs.{needs}
+use Rattle.connection.proofs.ask.later_command.Statement.{statement}
+use Rattle.connection.proofs.ask.later_command.Tie as tie
+
+returns : tie.Need-returns
+returns c =
+    rw (
+      c .before .before .before .header-with .ensures,
+      c .command-with .ensures,
+      c .before .before .later-kind .ensures,
+      c .before .part-length .ensures .0,
+      c .before .before .before .before .rest-of .ensures,
+      c .before .before .before .before .before .total-of .ensures .0,
+    )
+
+pub later-command-spec : {M : Type 1} → statement M
+later-command-spec =
+    tie.close
+    (tie.spec
+    (λ c κs. search needs)
+    (λ c κs. search needs)
+    (λ c κs. search needs)
+    (λ c κs. search needs)
+    (λ c κs. search needs)
+    (λ c κs. search needs)
+    returns)

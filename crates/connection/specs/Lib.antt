@@ -1,0 +1,10 @@
+pub mod Ask
+pub mod Commands
+pub mod Deadline
+pub mod Parts
+pub mod Payload
+pub mod Record
+pub mod Reply
+pub mod Start
+pub mod Tick
+pub mod Types

@@ -1,0 +1,242 @@
+// Starts: a write, a read or a concise DCF job, over a room that the caller lends. Every refusal is decided first; then the job's bytes
+// are put at the start of the room.
+ghost use mathlib.Core.Path.{_≡_};
+ghost use Prim.Native.Nat.{min, _≤_};
+ghost use lib.ListN.{length};
+ghost use Rattle.connection.specs.Start.{
+  isIdle,
+  jobWith,
+  dcfJob,
+  dcfTransaction,
+  started as startedOf,
+  startRead,
+  startWrite,
+  startDcf,
+  roomWith,
+};
+use crate::deadline::deadline_of;
+use crate::deadline::retries_of;
+use crate::reply::next_transaction;
+use crate::types::Changed;
+use crate::types::Deadline;
+use crate::types::LoadedTransfer;
+use crate::types::Moment;
+use crate::types::Now;
+use crate::types::Outcome;
+use crate::types::Outstanding;
+use crate::types::PendingRead;
+use crate::types::SdoClientConnection;
+use crate::types::SdoClientConnectionState;
+use crate::types::SdoJob;
+use crate::types::Transfer;
+use crate::types::Waiting;
+use codec::dcf::DcfCount;
+use codec::dcf::DcfCursor;
+use codec::dcf::DcfStep;
+use codec::dcf::dcf_count;
+use codec::dcf::dcf_step;
+use codec::octets::put;
+use codec::refusal::Refusal;
+
+fn is_idle(s: SdoClientConnectionState) -> bool
+    ensures { λ r. ⌜ r ≡ isIdle s ⌝ }
+{
+    match s {
+        SdoClientConnectionState::Idle => true,
+        SdoClientConnectionState::Opening => false,
+        SdoClientConnectionState::Established => false,
+        SdoClientConnectionState::UploadInit => false,
+        SdoClientConnectionState::UploadInProgress => false,
+        SdoClientConnectionState::DownloadInProgress => false,
+        SdoClientConnectionState::Closed => true,
+    }
+}
+
+// How many bytes a job may have in a room of n bytes.
+fn capacity_of(n: usize) -> usize
+    ensures { λ r. ⌜ (r ≡ min n 4294967295) × (r ≤ 4294967295) × (r ≤ n) ⌝ }
+{
+    if n < 4294967295 { n } else { 4294967295 }
+}
+
+fn job_with(size: usize, cursor: DcfCursor, loaded: LoadedTransfer, read: PendingRead) -> SdoJob
+    ensures { λ r. ⌜ r ≡ jobWith size cursor loaded read ⌝ }
+{
+    SdoJob {
+        size,
+        cursor,
+        loaded,
+        offset: 0,
+        pending_read: read,
+        uploaded: 0,
+        delivered: 0,
+    }
+}
+
+// Opening, with a job and its deadline; 8 where the deadline does not fit.
+fn started(c: SdoClientConnection, tid: u8, n: Now, job: SdoJob) -> Changed
+    ensures { λ r. ⌜ r ≡ startedOf c tid n job ⌝ }
+{
+    let timeout = n.timeout;
+    let retries = n.retries;
+    let Moment::At(deadline) = deadline_of(n.time, timeout) else {
+        return Changed::Refused(Refusal::DeadlineRange);
+    };
+    Changed::Connection(SdoClientConnection {
+        state: SdoClientConnectionState::Opening,
+        transaction_id: tid,
+        send_sequence_number: 0,
+        last_received_sequence_number: 63,
+        job,
+        waiting: Waiting {
+            last_sent_command: Outstanding::Nothing,
+            deadline: Deadline::At(deadline),
+            retries_left: retries_of(retries),
+        },
+        outcome: Outcome::Running,
+        ..c
+    })
+}
+
+// A DCF's job: the first entry loaded, if it is readable.
+fn dcf_job(d: DcfStep, size: usize, first: DcfCursor) -> SdoJob
+    ensures { λ r. ⌜ r ≡ dcfJob d size first ⌝ }
+{
+    match d {
+        DcfStep::Entry {
+            index,
+            sub_index,
+            start,
+            len,
+            next,
+        } => job_with(
+            size,
+            next,
+            LoadedTransfer::Loaded(Transfer {
+                index,
+                sub_index,
+                start,
+                len,
+            }),
+            PendingRead::NoRead,
+        ),
+        DcfStep::End => job_with(size, first, LoadedTransfer::Unloaded, PendingRead::NoRead),
+        DcfStep::Unreadable => job_with(size, first, LoadedTransfer::Unloaded, PendingRead::NoRead),
+    }
+}
+
+// The load of the first entry steps the transaction.
+fn dcf_transaction(d: DcfStep, tid: u8) -> u8
+    ensures { λ r. ⌜ r ≡ dcfTransaction d tid ⌝ }
+{
+    match d {
+        DcfStep::Entry {
+            index: _,
+            sub_index: _,
+            start: _,
+            len: _,
+            next: _,
+        } => next_transaction(tid),
+        DcfStep::End => tid,
+        DcfStep::Unreadable => tid,
+    }
+}
+
+impl SdoClientConnection {
+    // Starts a job that reads an object. 4 where a job is running, 8 where the deadline does not fit.
+    pub fn start_read_job(self, index: u16, sub_index: u8, tid: u8, when: Now) -> Changed
+        ensures { λ r. ⌜ r ≡ startRead self tid «when» index «sub_index» ⌝ }
+    {
+        let state = self.state;
+        if is_idle(state) {
+            let read = PendingRead::Read { index, sub_index };
+            let job = job_with(
+                0,
+                DcfCursor { at: 0, left: 0 },
+                LoadedTransfer::Unloaded,
+                read,
+            );
+            return started(self, tid, when, job);
+        }
+        Changed::Refused(Refusal::Busy)
+    }
+
+    // Starts a job that writes an object. 4 where a job is running, 7 where its bytes and the 4 ahead of them go past the room, 8 where
+    // the deadline does not fit; then the room is as it was.
+    pub fn start_write_job(
+        self,
+        index: u16,
+        sub_index: u8,
+        bytes: &[u8],
+        tid: u8,
+        when: Now,
+        room: &mut [u8],
+    ) -> Changed
+        ensures { λ r. ⌜ r ≡ startWrite self tid «when» index «sub_index» (now (bytes .entry)) (now (room .entry)) ⌝ }
+        ensures { λ _. ⌜ now (room .exit) ≡ roomWith (startWrite self tid «when» index «sub_index» (now (bytes .entry)) (now (room .entry))) (now (bytes .entry)) (now (room .entry)) ⌝ }
+    {
+        let state = self.state;
+        if is_idle(state) {
+            let size = bytes.len();
+            let most = capacity_of(room.len());
+            if most < 4 {
+                return Changed::Refused(Refusal::NoRoom);
+            }
+            if most - 4 < size {
+                return Changed::Refused(Refusal::NoRoom);
+            }
+            let loaded = LoadedTransfer::Loaded(Transfer {
+                index,
+                sub_index,
+                start: 0,
+                len: size as u32,
+            });
+            let job = job_with(
+                size,
+                DcfCursor { at: 0, left: 0 },
+                loaded,
+                PendingRead::NoRead,
+            );
+            match started(self, tid, when, job) {
+                Changed::Connection(c) => {
+                    put(room, 0, bytes);
+                    return Changed::Connection(c);
+                }
+                Changed::Refused(r) => {
+                    return Changed::Refused(r);
+                }
+            }
+        }
+        Changed::Refused(Refusal::Busy)
+    }
+
+    // Starts a concise DCF job. 4 where a job is running, 5 for a DCF under four bytes, 7 where it goes past the room, 8 where the
+    // deadline does not fit; then the room is as it was.
+    pub fn start_concise_dcf_job(self, dcf: &[u8], tid: u8, when: Now, room: &mut [u8]) -> Changed
+        ensures { λ r. ⌜ r ≡ startDcf self tid «when» (now (dcf .entry)) (now (room .entry)) ⌝ }
+        ensures { λ _. ⌜ now (room .exit) ≡ roomWith (startDcf self tid «when» (now (dcf .entry)) (now (room .entry))) (now (dcf .entry)) (now (room .entry)) ⌝ }
+    {
+        let state = self.state;
+        if is_idle(state) {
+            let DcfCount::Count(count) = dcf_count(dcf) else {
+                return Changed::Refused(Refusal::DcfTooShort);
+            };
+            if capacity_of(room.len()) < dcf.len() {
+                return Changed::Refused(Refusal::NoRoom);
+            }
+            let first = DcfCursor { at: 4, left: count };
+            let step = dcf_step(dcf, first);
+            let job = dcf_job(step, dcf.len(), first);
+            match started(self, dcf_transaction(step, tid), when, job) {
+                Changed::Connection(c) => {
+                    put(room, 0, dcf);
+                    return Changed::Connection(c);
+                }
+                Changed::Refused(r) => {
+                    return Changed::Refused(r);
+                }
+            }
+        }
+        Changed::Refused(Refusal::Busy)
+    }
+}

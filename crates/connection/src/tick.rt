@@ -1,0 +1,125 @@
+// Tick: what a deadline that has passed brings about. It looks at the record alone.
+ghost use mathlib.Core.Bool.{true};
+ghost use mathlib.Core.Path.{_≡_};
+ghost use Prim.Native.Nat.{_<_};
+ghost use Rattle.connection.specs.Commands.{abortCommand};
+ghost use Rattle.connection.specs.Tick.{repeated as repeatedOf, retriedAt, timedOut, tickAt, tickOf};
+use crate::ask::command_with;
+use crate::ask::ended;
+use crate::ask::header_with;
+use crate::ask::quiet;
+use crate::deadline::deadline_of;
+use crate::types::Deadline;
+use crate::types::Moment;
+use crate::types::Now;
+use crate::types::Outgoing;
+use crate::types::Outstanding;
+use crate::types::Payload;
+use crate::types::Reason;
+use crate::types::SdoClientConnection;
+use crate::types::Sends;
+use crate::types::Step;
+use crate::types::Stepped;
+use crate::types::Waiting;
+use codec::command::CommandId;
+use codec::command::DataSize;
+use codec::command::Segmentation;
+use codec::refusal::Refusal;
+use codec::sequence::ReceiveConnState;
+use codec::sequence::SendConnState;
+
+const TIMED_OUT: u32 = 0x05040000;
+
+fn abort_command(c: SdoClientConnection) -> Outgoing
+    ensures { λ r. ⌜ r ≡ abortCommand c ⌝ }
+{
+    Outgoing {
+        sequence: header_with(
+            c,
+            ReceiveConnState::ConnectionValid,
+            SendConnState::NoConnection,
+        ),
+        command: command_with(
+            c,
+            true,
+            Segmentation::Expedited,
+            CommandId::Nil,
+            4,
+            DataSize::Absent,
+        ),
+        payload: Payload::AbortCode(TIMED_OUT),
+    }
+}
+
+// The outstanding command again, or nothing if none was sent yet.
+fn repeated(o: Outstanding) -> Sends
+    ensures { λ r. ⌜ r ≡ repeatedOf o ⌝ }
+{
+    match o {
+        Outstanding::Waits(k) => Sends::Gives(k),
+        Outstanding::Nothing => Sends::Silent,
+    }
+}
+
+fn timed_out(c: SdoClientConnection) -> Stepped
+    ensures { λ r. ⌜ r ≡ timedOut c ⌝ }
+{
+    Stepped::Went(Step {
+        connection: ended(c, Reason::Timeout),
+        sends: Sends::Gives(abort_command(c)),
+    })
+}
+
+// One retry fewer and a new deadline; 8 where it does not fit.
+fn retried(m: Moment, c: SdoClientConnection) -> Stepped
+    requires { ⌜ 0 < c .waiting .«retries_left» ⌝ }
+    ensures { λ r. ⌜ r ≡ retriedAt m c ⌝ }
+{
+    let waiting = c.waiting;
+    let outstanding = waiting.last_sent_command;
+    match m {
+        Moment::At(deadline) => Stepped::Went(Step {
+            connection: SdoClientConnection {
+                waiting: Waiting {
+                    deadline: Deadline::At(deadline),
+                    retries_left: waiting.retries_left - 1,
+                    ..waiting
+                },
+                ..c
+            },
+            sends: repeated(outstanding),
+        }),
+        Moment::OutOfRange => Stepped::Refused(Refusal::DeadlineRange),
+    }
+}
+
+fn tick_at(d: Deadline, c: SdoClientConnection, n: Now) -> Stepped
+    ensures { λ r. ⌜ r ≡ tickAt d c n ⌝ }
+{
+    let waiting = c.waiting;
+    let timeout = n.timeout;
+    match d {
+        Deadline::Never => quiet(c),
+        Deadline::At(deadline) => {
+            if n.time < deadline {
+                return quiet(c);
+            }
+            if waiting.retries_left == 0 {
+                return timed_out(c);
+            }
+            retried(deadline_of(n.time, timeout), c)
+        }
+    }
+}
+
+impl SdoClientConnection {
+    // What a deadline that has passed brings about: a repeat, or the abort of the connection. Call it when next_action_time has come; a
+    // call before that changes nothing. 8 where a new deadline does not fit.
+    pub fn tick(self, when: Now) -> Stepped
+        ensures { λ r. ⌜ r ≡ tickOf self «when» ⌝ }
+    {
+        let waiting = self.waiting;
+        let deadline = waiting.deadline;
+        tick_at(deadline, self, when)
+    }
+}

@@ -1,0 +1,232 @@
+// Document 01's own run and its edges, through the connection's calls. What this program writes is held to the file stdout, whose lines
+// are the paper's numbers.
+use codec::command::CommandId;
+use codec::command::CommandLayerHeader;
+use codec::command::DataSize;
+use codec::command::SdoCommand;
+use codec::command::Segmentation;
+use codec::refusal::refusal_number;
+use codec::sequence::SequenceLayerHeader;
+use codec::sequence::SequenceRead;
+use codec::sequence::Written;
+use connection::payload::write_payload;
+use connection::types::Changed;
+use connection::types::EndFound;
+use connection::types::Now;
+use connection::types::Outgoing;
+use connection::types::Parameter;
+use connection::types::Reason;
+use connection::types::SdoClientConnection;
+use connection::types::Sends;
+use connection::types::Stepped;
+use libc::STDOUT_FILENO;
+
+fn text(b: &[u8]) {
+    io::write_all(STDOUT_FILENO, b);
+}
+
+fn wide(x: u8) -> u64 {
+    x as u64
+}
+
+fn hex(b: &[u8]) {
+    let mut i: usize = 0;
+    while i < b.len() {
+        io::print_hex(STDOUT_FILENO, wide(b[i]), 2);
+        i += 1;
+    }
+}
+
+// The bytes of a command that goes out: sequence header, command.
+fn frame(o: Outgoing, room: &[u8]) {
+    let mut header = [0u8; 4];
+    let sequence = o.sequence;
+    let command = o.command;
+    sequence.serialize(&mut header);
+    hex(&header);
+    let mut payload = [0u8; 1452];
+    let Written::Bytes(n) = write_payload(o, room, &mut payload) else {
+        return;
+    };
+    let mut bytes = [0u8; 1464];
+    let Written::Bytes(m) = command.serialize(codec::octets::part(&payload, 0, n), &mut bytes) else {
+        return;
+    };
+    hex(codec::octets::part(&bytes, 0, m));
+}
+
+// What ask or tick gave, on a line: the frame, `-` for nothing, or the refusal's number.
+fn show(what: &[u8], s: Stepped, c: SdoClientConnection, room: &[u8]) -> SdoClientConnection {
+    text(what);
+    match s {
+        Stepped::Went(step) => {
+            let sends = step.sends;
+            let after = step.connection;
+            match sends {
+                Sends::Gives(o) => frame(o, room),
+                Sends::Silent => text(b"-"),
+            }
+            text(b"\n");
+            after
+        }
+        Stepped::Refused(r) => {
+            io::print_decimal(STDOUT_FILENO, wide(refusal_number(r)));
+            text(b"\n");
+            c
+        }
+    }
+}
+
+// What a start or a reply came to: 0 or the refusal's number.
+fn came(what: &[u8], a: Changed, c: SdoClientConnection) -> SdoClientConnection {
+    text(what);
+    match a {
+        Changed::Connection(after) => {
+            text(b"0\n");
+            after
+        }
+        Changed::Refused(r) => {
+            io::print_decimal(STDOUT_FILENO, wide(refusal_number(r)));
+            text(b"\n");
+            c
+        }
+    }
+}
+
+fn letter(r: Reason) {
+    match r {
+        Reason::Complete => text(b"C"),
+        Reason::Cut => text(b"X"),
+        Reason::OpenRefused => text(b"O"),
+        Reason::Sequence => text(b"S"),
+        Reason::PeerAborted(_) => text(b"P"),
+        Reason::Timeout => text(b"T"),
+        Reason::BadSegment => text(b"U"),
+    }
+}
+
+// The end, as node:letter:delivered, or `-`.
+fn end(c: SdoClientConnection) {
+    text(b"end ");
+    match c.end() {
+        EndFound::End(e) => {
+            let reason = e.reason;
+            io::print_decimal(STDOUT_FILENO, wide(e.node));
+            text(b":");
+            letter(reason);
+            text(b":");
+            io::print_decimal(STDOUT_FILENO, e.delivered as u64);
+        }
+        EndFound::Running => text(b"-"),
+    }
+    text(b"\n");
+}
+
+fn absent(time: u64) -> Now {
+    Now {
+        time,
+        timeout: Parameter::Absent,
+        retries: Parameter::Absent,
+    }
+}
+
+fn with_retries(time: u64, n: u32) -> Now {
+    Now {
+        time,
+        timeout: Parameter::Absent,
+        retries: Parameter::Present(n),
+    }
+}
+
+// A reply as the replay has it: two sequence octets, command Nil, no data.
+fn reply(c: SdoClientConnection, octet0: u8, octet1: u8, room: &mut [u8]) -> SdoClientConnection {
+    let octets = [octet0, octet1, 0, 0];
+    let SequenceRead::Header(seq) = SequenceLayerHeader::deserialize(&octets) else {
+        return c;
+    };
+    let cmd = SdoCommand {
+        header: CommandLayerHeader {
+            transaction_id: 0,
+            is_response: false,
+            is_aborted: false,
+            segmentation: Segmentation::Expedited,
+            command_id: CommandId::Nil,
+            segment_size: 0,
+        },
+        data_size: DataSize::Absent,
+    };
+    let none = [0u8; 0];
+    came(b"reply ", c.handle_response(seq, cmd, &none, room), c)
+}
+
+// Document 01's five records.
+fn run() {
+    let mut room = [0u8; 4096];
+    let new = SdoClientConnection::new(5, 0);
+    let bytes = [0x01, 0x04];
+    let c = came(b"write ", new.start_write_job(0x2100, 1, &bytes, 1, absent(0), &mut room), new);
+    let c = show(b"ask ", c.get_pending_request(absent(0)), c, &room);
+    let c = reply(c, 0x01, 0x01, &mut room);
+    let c = show(b"ask ", c.get_pending_request(absent(0)), c, &room);
+    let c = reply(c, 0x06, 0x06, &mut room);
+    end(c);
+}
+
+// Retries 0: before the deadline nothing, at it the abort command. Retries 1: first nothing, since no command was sent yet.
+fn timeouts() {
+    let mut room = [0u8; 4096];
+    let new = SdoClientConnection::new(5, 0);
+    let c = came(b"read ", new.start_read_job(0x2100, 1, 1, with_retries(0, 0)), new);
+    let c = show(b"tick ", c.tick(with_retries(14999999, 0)), c, &room);
+    let c = show(b"tick ", c.tick(with_retries(15000000, 0)), c, &room);
+    end(c);
+    let d = came(b"read ", new.start_read_job(0x2100, 1, 1, with_retries(0, 1)), new);
+    let d = show(b"tick ", d.tick(with_retries(15000000, 1)), d, &room);
+    let d = show(b"tick ", d.tick(with_retries(29999999, 1)), d, &room);
+    let d = show(b"tick ", d.tick(with_retries(30000000, 1)), d, &room);
+    end(d);
+}
+
+// A command sent and not answered is repeated as it was, twice, and then aborted.
+fn repeats() {
+    let mut room = [0u8; 4096];
+    let new = SdoClientConnection::new(5, 0);
+    let c = came(b"read ", new.start_read_job(0x2100, 1, 7, absent(0)), new);
+    let c = show(b"ask ", c.get_pending_request(absent(0)), c, &room);
+    let c = show(b"ask ", c.get_pending_request(absent(0)), c, &room);
+    let c = show(b"tick ", c.tick(absent(15000000)), c, &room);
+    let c = show(b"tick ", c.tick(absent(30000000)), c, &room);
+    let c = show(b"tick ", c.tick(absent(45000000)), c, &room);
+    end(c);
+}
+
+// 7 NoRoom at 4,093 data bytes and not at 4,092; then 4 Busy.
+fn rooms() {
+    let mut room = [0u8; 4096];
+    let new = SdoClientConnection::new(5, 0);
+    let data = [7u8; 4096];
+    let over = codec::octets::part(&data, 0, 4093);
+    let c = came(b"write 4093 ", new.start_write_job(0x2100, 1, over, 1, absent(0), &mut room), new);
+    let most = codec::octets::part(&data, 0, 4092);
+    let c = came(b"write 4092 ", c.start_write_job(0x2100, 1, most, 1, absent(0), &mut room), c);
+    let c = came(b"read ", c.start_read_job(0x2100, 1, 1, absent(0)), c);
+    end(c);
+}
+
+// 5 DcfTooShort, 8 DeadlineRange.
+fn refusals() {
+    let mut room = [0u8; 4096];
+    let new = SdoClientConnection::new(5, 0);
+    let three = [2u8, 0, 0];
+    let c = came(b"dcf ", new.start_concise_dcf_job(&three, 1, absent(0), &mut room), new);
+    let c = came(b"read ", c.start_read_job(0x2100, 1, 1, absent(18446744073709551615)), c);
+    end(c);
+}
+
+fn main() {
+    run();
+    timeouts();
+    repeats();
+    rooms();
+    refusals();
+}

@@ -49,7 +49,8 @@ fn frame(o: Outgoing, room: &[u8]) {
         return;
     };
     let mut bytes = [0u8; 1464];
-    let Written::Bytes(m) = command.serialize(codec::octets::part(&payload, 0, n), &mut bytes) else {
+    let Written::Bytes(m) = command.serialize(codec::octets::part(&payload, 0, n), &mut bytes)
+    else {
         return;
     };
     hex(codec::octets::part(&bytes, 0, m));
@@ -164,7 +165,11 @@ fn run() {
     let mut room = [0u8; 4096];
     let new = SdoClientConnection::new(5, 0);
     let bytes = [0x01, 0x04];
-    let c = came(b"write ", new.start_write_job(0x2100, 1, &bytes, 1, absent(0), &mut room), new);
+    let c = came(
+        b"write ",
+        new.start_write_job(0x2100, 1, &bytes, 1, absent(0), &mut room),
+        new,
+    );
     let c = show(b"ask ", c.get_pending_request(absent(0)), c, &room);
     let c = reply(c, 0x01, 0x01, &mut room);
     let c = show(b"ask ", c.get_pending_request(absent(0)), c, &room);
@@ -176,11 +181,19 @@ fn run() {
 fn timeouts() {
     let mut room = [0u8; 4096];
     let new = SdoClientConnection::new(5, 0);
-    let c = came(b"read ", new.start_read_job(0x2100, 1, 1, with_retries(0, 0)), new);
+    let c = came(
+        b"read ",
+        new.start_read_job(0x2100, 1, 1, with_retries(0, 0)),
+        new,
+    );
     let c = show(b"tick ", c.tick(with_retries(14999999, 0)), c, &room);
     let c = show(b"tick ", c.tick(with_retries(15000000, 0)), c, &room);
     end(c);
-    let d = came(b"read ", new.start_read_job(0x2100, 1, 1, with_retries(0, 1)), new);
+    let d = came(
+        b"read ",
+        new.start_read_job(0x2100, 1, 1, with_retries(0, 1)),
+        new,
+    );
     let d = show(b"tick ", d.tick(with_retries(15000000, 1)), d, &room);
     let d = show(b"tick ", d.tick(with_retries(29999999, 1)), d, &room);
     let d = show(b"tick ", d.tick(with_retries(30000000, 1)), d, &room);
@@ -206,9 +219,17 @@ fn rooms() {
     let new = SdoClientConnection::new(5, 0);
     let data = [7u8; 4096];
     let over = codec::octets::part(&data, 0, 4093);
-    let c = came(b"write 4093 ", new.start_write_job(0x2100, 1, over, 1, absent(0), &mut room), new);
+    let c = came(
+        b"write 4093 ",
+        new.start_write_job(0x2100, 1, over, 1, absent(0), &mut room),
+        new,
+    );
     let most = codec::octets::part(&data, 0, 4092);
-    let c = came(b"write 4092 ", c.start_write_job(0x2100, 1, most, 1, absent(0), &mut room), c);
+    let c = came(
+        b"write 4092 ",
+        c.start_write_job(0x2100, 1, most, 1, absent(0), &mut room),
+        c,
+    );
     let c = came(b"read ", c.start_read_job(0x2100, 1, 1, absent(0)), c);
     end(c);
 }
@@ -218,8 +239,16 @@ fn refusals() {
     let mut room = [0u8; 4096];
     let new = SdoClientConnection::new(5, 0);
     let three = [2u8, 0, 0];
-    let c = came(b"dcf ", new.start_concise_dcf_job(&three, 1, absent(0), &mut room), new);
-    let c = came(b"read ", c.start_read_job(0x2100, 1, 1, absent(18446744073709551615)), c);
+    let c = came(
+        b"dcf ",
+        new.start_concise_dcf_job(&three, 1, absent(0), &mut room),
+        new,
+    );
+    let c = came(
+        b"read ",
+        c.start_read_job(0x2100, 1, 1, absent(18446744073709551615)),
+        c,
+    );
     end(c);
 }
 

@@ -306,7 +306,7 @@ fn ask_read(read: PendingRead, c: SdoClientConnection, n: Now) -> Stepped
 {
     let job = c.job;
     match read {
-        PendingRead::Read { index, sub_index } => given(
+        PendingRead::Read { index, sub_index } => return given(
             c,
             n,
             SdoClientConnectionState::UploadInit,
@@ -315,7 +315,7 @@ fn ask_read(read: PendingRead, c: SdoClientConnection, n: Now) -> Stepped
         ),
         PendingRead::NoRead => {
             let cursor = job.cursor;
-            quiet(ended(c, finish(cursor.left)))
+            return quiet(ended(c, finish(cursor.left)));
         }
     }
 }
@@ -326,18 +326,18 @@ fn ask_first(loaded: LoadedTransfer, c: SdoClientConnection, n: Now) -> Stepped
     match loaded {
         LoadedTransfer::Loaded(t) => {
             let sent = part_length(total_of(t)) as u64;
-            given(
+            return given(
                 c,
                 n,
                 SdoClientConnectionState::DownloadInProgress,
                 sent,
                 first_command(c, t),
-            )
+            );
         }
         LoadedTransfer::Unloaded => {
             let job = c.job;
             let read = job.pending_read;
-            ask_read(read, c, n)
+            return ask_read(read, c, n);
         }
     }
 }
@@ -350,15 +350,15 @@ fn ask_later(loaded: LoadedTransfer, c: SdoClientConnection, n: Now) -> Stepped
             let job = c.job;
             let offset = job.offset;
             let more = part_length(rest_of(total_of(t), offset)) as u64;
-            given(
+            return given(
                 c,
                 n,
                 SdoClientConnectionState::DownloadInProgress,
                 offset + more,
                 later_command(c, t, offset),
-            )
+            );
         }
-        LoadedTransfer::Unloaded => quiet(c),
+        LoadedTransfer::Unloaded => return quiet(c),
     }
 }
 
@@ -368,25 +368,25 @@ fn ask_in(s: SdoClientConnectionState, c: SdoClientConnection, n: Now) -> Steppe
     let job = c.job;
     let loaded = job.loaded;
     match s {
-        SdoClientConnectionState::Idle => quiet(c),
-        SdoClientConnectionState::Opening => given(
+        SdoClientConnectionState::Idle => return quiet(c),
+        SdoClientConnectionState::Opening => return given(
             c,
             n,
             SdoClientConnectionState::Opening,
             job.offset,
             opening_command(c),
         ),
-        SdoClientConnectionState::Established => ask_first(loaded, c, n),
-        SdoClientConnectionState::UploadInit => quiet(c),
-        SdoClientConnectionState::UploadInProgress => given(
+        SdoClientConnectionState::Established => return ask_first(loaded, c, n),
+        SdoClientConnectionState::UploadInit => return quiet(c),
+        SdoClientConnectionState::UploadInProgress => return given(
             c,
             n,
             SdoClientConnectionState::UploadInProgress,
             job.offset,
             next_command(c),
         ),
-        SdoClientConnectionState::DownloadInProgress => ask_later(loaded, c, n),
-        SdoClientConnectionState::Closed => quiet(c),
+        SdoClientConnectionState::DownloadInProgress => return ask_later(loaded, c, n),
+        SdoClientConnectionState::Closed => return quiet(c),
     }
 }
 
@@ -400,8 +400,8 @@ impl SdoClientConnection {
         let outstanding = waiting.last_sent_command;
         let state = self.state;
         match outstanding {
-            Outstanding::Waits(_) => quiet(self),
-            Outstanding::Nothing => ask_in(state, self, when),
+            Outstanding::Waits(_) => return quiet(self),
+            Outstanding::Nothing => return ask_in(state, self, when),
         }
     }
 }

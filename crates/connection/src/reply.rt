@@ -117,6 +117,7 @@ fn reply_next(d: DcfStep, c: SdoClientConnection) -> SdoClientConnection
 {
     let before = c.job;
     let job = delivered_one(before);
+    let done = SdoClientConnection { job, ..c };
     match d {
         DcfStep::Entry {
             index,
@@ -124,24 +125,26 @@ fn reply_next(d: DcfStep, c: SdoClientConnection) -> SdoClientConnection
             start,
             len,
             next,
-        } => SdoClientConnection {
-            state: SdoClientConnectionState::Established,
-            transaction_id: next_transaction(c.transaction_id),
-            job: SdoJob {
-                cursor: next,
-                loaded: LoadedTransfer::Loaded(Transfer {
-                    index,
-                    sub_index,
-                    start,
-                    len,
-                }),
-                offset: 0,
-                ..job
-            },
-            ..c
-        },
-        DcfStep::End => ended(SdoClientConnection { job, ..c }, Reason::Complete),
-        DcfStep::Unreadable => ended(SdoClientConnection { job, ..c }, Reason::Cut),
+        } => {
+            return SdoClientConnection {
+                state: SdoClientConnectionState::Established,
+                transaction_id: next_transaction(c.transaction_id),
+                job: SdoJob {
+                    cursor: next,
+                    loaded: LoadedTransfer::Loaded(Transfer {
+                        index,
+                        sub_index,
+                        start,
+                        len,
+                    }),
+                    offset: 0,
+                    ..job
+                },
+                ..c
+            };
+        }
+        DcfStep::End => return ended(done, Reason::Complete),
+        DcfStep::Unreadable => return ended(done, Reason::Cut),
     }
 }
 
@@ -156,9 +159,9 @@ fn reply_sent(loaded: LoadedTransfer, room: &[u8], c: SdoClientConnection) -> Sd
                 let own = clip(room, 0, job.size);
                 return reply_next(dcf_step(own, cursor), c);
             }
-            c
+            return c;
         }
-        LoadedTransfer::Unloaded => c,
+        LoadedTransfer::Unloaded => return c,
     }
 }
 
@@ -188,8 +191,11 @@ fn stored_last(f: RoomFor, c: SdoClientConnection, from: usize) -> Decision
     ensures { λ r. ⌜ r ≡ storedLast f c from ⌝ }
 {
     match f {
-        RoomFor::Upto(end) => Decision::Stores(ended(with_bytes(c, end), Reason::Complete), from),
-        RoomFor::NoRoom => Decision::NoRoom,
+        RoomFor::Upto(end) => return Decision::Stores(
+            ended(with_bytes(c, end), Reason::Complete),
+            from,
+        ),
+        RoomFor::NoRoom => return Decision::NoRoom,
     }
 }
 
@@ -197,23 +203,23 @@ fn stored_more(f: RoomFor, c: SdoClientConnection, from: usize) -> Decision
     ensures { λ r. ⌜ r ≡ storedMore f c from ⌝ }
 {
     match f {
-        RoomFor::Upto(end) => Decision::Stores(with_bytes(c, end), from),
-        RoomFor::NoRoom => Decision::NoRoom,
+        RoomFor::Upto(end) => return Decision::Stores(with_bytes(c, end), from),
+        RoomFor::NoRoom => return Decision::NoRoom,
     }
 }
 
 fn reply_first(kind: Segmentation, c: SdoClientConnection, n: usize, room: &[u8]) -> Decision
     ensures { λ r. ⌜ r ≡ replyFirst kind c n (now (room .entry)) ⌝ }
 {
-    match kind {
-        Segmentation::Expedited => stored_last(room_for(0, n, room), c, 0),
-        Segmentation::Initiate => Decision::Keeps(in_state(
-            with_bytes(c, 0),
-            SdoClientConnectionState::UploadInProgress,
-        )),
-        Segmentation::Segment => Decision::Keeps(ended(c, Reason::BadSegment)),
-        Segmentation::Complete => Decision::Keeps(ended(c, Reason::BadSegment)),
-    }
+    let next = match kind {
+        Segmentation::Expedited => return stored_last(room_for(0, n, room), c, 0),
+        Segmentation::Initiate => {
+            in_state(with_bytes(c, 0), SdoClientConnectionState::UploadInProgress)
+        }
+        Segmentation::Segment => ended(c, Reason::BadSegment),
+        Segmentation::Complete => ended(c, Reason::BadSegment),
+    };
+    Decision::Keeps(next)
 }
 
 fn reply_more(kind: Segmentation, c: SdoClientConnection, n: usize, room: &[u8]) -> Decision
@@ -221,12 +227,13 @@ fn reply_more(kind: Segmentation, c: SdoClientConnection, n: usize, room: &[u8])
 {
     let job = c.job;
     let from = job.uploaded;
-    match kind {
-        Segmentation::Expedited => Decision::Keeps(ended(c, Reason::BadSegment)),
-        Segmentation::Initiate => Decision::Keeps(ended(c, Reason::BadSegment)),
-        Segmentation::Segment => stored_more(room_for(from, n, room), c, from),
-        Segmentation::Complete => stored_last(room_for(from, n, room), c, from),
-    }
+    let next = match kind {
+        Segmentation::Expedited => ended(c, Reason::BadSegment),
+        Segmentation::Initiate => ended(c, Reason::BadSegment),
+        Segmentation::Segment => return stored_more(room_for(from, n, room), c, from),
+        Segmentation::Complete => return stored_last(room_for(from, n, room), c, from),
+    };
+    Decision::Keeps(next)
 }
 
 fn receive_initializes(s: ReceiveConnState) -> bool
@@ -277,19 +284,16 @@ fn reply_in(
 {
     let job = c.job;
     let loaded = job.loaded;
-    match s {
-        SdoClientConnectionState::Idle => Decision::Keeps(ended(c, Reason::Sequence)),
-        SdoClientConnectionState::Opening => Decision::Keeps(reply_opening(seq, c)),
-        SdoClientConnectionState::Established => Decision::Keeps(ended(c, Reason::Sequence)),
-        SdoClientConnectionState::UploadInit => reply_first(kind, c, n, room),
-        SdoClientConnectionState::UploadInProgress => reply_more(kind, c, n, room),
-        SdoClientConnectionState::DownloadInProgress => Decision::Keeps(reply_sent(
-            loaded,
-            room,
-            c,
-        )),
-        SdoClientConnectionState::Closed => Decision::Keeps(ended(c, Reason::Sequence)),
-    }
+    let next = match s {
+        SdoClientConnectionState::Idle => ended(c, Reason::Sequence),
+        SdoClientConnectionState::Opening => reply_opening(seq, c),
+        SdoClientConnectionState::Established => ended(c, Reason::Sequence),
+        SdoClientConnectionState::UploadInit => return reply_first(kind, c, n, room),
+        SdoClientConnectionState::UploadInProgress => return reply_more(kind, c, n, room),
+        SdoClientConnectionState::DownloadInProgress => reply_sent(loaded, room, c),
+        SdoClientConnectionState::Closed => ended(c, Reason::Sequence),
+    };
+    Decision::Keeps(next)
 }
 
 fn reply_taken(
@@ -342,13 +346,13 @@ fn reply_to(
     ensures { λ r. ⌜ r ≡ replyTo o seq cmd (now (payload .entry)) c (now (room .entry)) ⌝ }
 {
     match o {
-        Outstanding::Nothing => Decision::Keeps(c),
+        Outstanding::Nothing => return Decision::Keeps(c),
         Outstanding::Waits(k) => {
             let sent = k.sequence;
             if seq.receive_sequence_number == sent.send_sequence_number {
                 return reply_heard(seq, cmd, payload, c, room);
             }
-            Decision::Keeps(c)
+            return Decision::Keeps(c);
         }
     }
 }
@@ -382,12 +386,12 @@ impl SdoClientConnection {
         ensures { λ _. ⌜ now (room .exit) ≡ roomAfter (replyOf seq cmd (now (payload .entry)) self (now (room .entry))) (now (payload .entry)) (now (room .entry)) ⌝ }
     {
         match reply_of(seq, cmd, payload, self, room) {
-            Decision::Keeps(c) => Changed::Connection(c),
+            Decision::Keeps(c) => return Changed::Connection(c),
             Decision::Stores(c, from) => {
                 put(room, from, payload);
-                Changed::Connection(c)
+                return Changed::Connection(c);
             }
-            Decision::NoRoom => Changed::Refused(Refusal::NoRoom),
+            Decision::NoRoom => return Changed::Refused(Refusal::NoRoom),
         }
     }
 }

@@ -78,7 +78,7 @@ fn retried(m: Moment, c: SdoClientConnection) -> Stepped
     let waiting = c.waiting;
     let outstanding = waiting.last_sent_command;
     match m {
-        Moment::At(deadline) => Stepped::Went(Step {
+        Moment::At(deadline) => return Stepped::Went(Step {
             connection: SdoClientConnection {
                 waiting: Waiting {
                     deadline: Deadline::At(deadline),
@@ -89,7 +89,7 @@ fn retried(m: Moment, c: SdoClientConnection) -> Stepped
             },
             sends: repeated(outstanding),
         }),
-        Moment::OutOfRange => Stepped::Refused(Refusal::DeadlineRange),
+        Moment::OutOfRange => return Stepped::Refused(Refusal::DeadlineRange),
     }
 }
 
@@ -99,7 +99,7 @@ fn tick_at(d: Deadline, c: SdoClientConnection, n: Now) -> Stepped
     let waiting = c.waiting;
     let timeout = n.timeout;
     match d {
-        Deadline::Never => quiet(c),
+        Deadline::Never => return quiet(c),
         Deadline::At(deadline) => {
             if n.time < deadline {
                 return quiet(c);
@@ -107,7 +107,7 @@ fn tick_at(d: Deadline, c: SdoClientConnection, n: Now) -> Stepped
             if waiting.retries_left == 0 {
                 return timed_out(c);
             }
-            retried(deadline_of(n.time, timeout), c)
+            return retried(deadline_of(n.time, timeout), c);
         }
     }
 }

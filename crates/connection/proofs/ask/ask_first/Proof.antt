@@ -27,7 +27,7 @@ ask-first-spec =
     (λ c. search needs)
     (λ c κs. search needs)
     (λ c κs. search needs)
+    returns
     (λ c. search needs)
     (λ c κs. search needs)
-    returns
     returns-2)

@@ -9,27 +9,27 @@ use Rattle.connection.proofs.reply.reply_in.Tie as tie
 returns : tie.Need-returns
 returns c =
     let a = c .before .before .before .before .before .args in
-    told (λ x. replyIn x (a .seq) (a .kind) (a .c) (a .n) (a .room .now)) refl (c .before .enum-told .given .1) (rw (c .ended .ensures))
+    told (λ x. replyIn x (a .seq) (a .kind) (a .c) (a .n) (a .room .now)) refl (c .before .enum-told4 .given .1) (c .reply-first .ensures)
 
 returns-2 : tie.Need-returns-2
 returns-2 c =
     let a = c .before .before .before .before .before .args in
-    told (λ x. replyIn x (a .seq) (a .kind) (a .c) (a .n) (a .room .now)) refl (c .before .enum-told2 .given .1) (rw (c .reply-opening .ensures))
+    told (λ x. replyIn x (a .seq) (a .kind) (a .c) (a .n) (a .room .now)) refl (c .before .enum-told5 .given .1) (c .reply-more .ensures)
 
 returns-3 : tie.Need-returns-3
 returns-3 c =
     let a = c .before .before .before .before .before .args in
-    told (λ x. replyIn x (a .seq) (a .kind) (a .c) (a .n) (a .room .now)) refl (c .before .enum-told3 .given .1) (rw (c .ended2 .ensures))
+    told (λ x. replyIn x (a .seq) (a .kind) (a .c) (a .n) (a .room .now)) refl (c .before .enum-told .given .1) (rw (c .ended .ensures))
 
 returns-4 : tie.Need-returns-4
 returns-4 c =
     let a = c .before .before .before .before .before .args in
-    told (λ x. replyIn x (a .seq) (a .kind) (a .c) (a .n) (a .room .now)) refl (c .before .enum-told4 .given .1) (c .reply-first .ensures)
+    told (λ x. replyIn x (a .seq) (a .kind) (a .c) (a .n) (a .room .now)) refl (c .before .enum-told2 .given .1) (rw (c .reply-opening .ensures))
 
 returns-5 : tie.Need-returns-5
 returns-5 c =
     let a = c .before .before .before .before .before .args in
-    told (λ x. replyIn x (a .seq) (a .kind) (a .c) (a .n) (a .room .now)) refl (c .before .enum-told5 .given .1) (c .reply-more .ensures)
+    told (λ x. replyIn x (a .seq) (a .kind) (a .c) (a .n) (a .room .now)) refl (c .before .enum-told3 .given .1) (rw (c .ended2 .ensures))
 
 returns-6 : tie.Need-returns-6
 returns-6 c =
@@ -53,14 +53,14 @@ reply-in-spec =
     (λ c κs. search needs)
     (λ c. search needs)
     (λ c κs. search needs)
-    (λ c. search needs)
-    (λ c κs. search needs)
-    (λ c. search needs)
-    (λ c κs. search needs)
-    (λ c. search needs)
-    (λ c κs. search needs)
     returns
+    (λ c. search needs)
+    (λ c κs. search needs)
     returns-2
+    (λ c. search needs)
+    (λ c κs. search needs)
+    (λ c. search needs)
+    (λ c κs. search needs)
     returns-3
     returns-4
     returns-5

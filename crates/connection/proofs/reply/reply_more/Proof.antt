@@ -9,23 +9,23 @@ use Rattle.connection.proofs.reply.reply_more.Tie as tie
 
 returns : tie.Need-returns
 returns c =
-    let a = c .before .before .before .before .before .args in
-    told (λ x. replyMore x (a .c) (a .n) (a .room .now)) refl (c .before .enum-told .given .1) (rw (c .ended .ensures))
-
-returns-2 : tie.Need-returns-2
-returns-2 c =
-    let a = c .before .before .before .before .before .args in
-    told (λ x. replyMore x (a .c) (a .n) (a .room .now)) refl (c .before .enum-told2 .given .1) (rw (c .ended2 .ensures))
-
-returns-3 : tie.Need-returns-3
-returns-3 c =
     let a = c .before .before .before .before .before .before .args in
     told (λ x. replyMore x (a .c) (a .n) (a .room .now)) refl (c .before .before .enum-told3 .given .1) (c .stored-more .ensures ∙ rw (c .before .room-for .ensures))
 
-returns-4 : tie.Need-returns-4
-returns-4 c =
+returns-2 : tie.Need-returns-2
+returns-2 c =
     let a = c .before .before .before .before .before .before .args in
     told (λ x. replyMore x (a .c) (a .n) (a .room .now)) refl (c .before .before .enum-told4 .given .1) (c .stored-last .ensures ∙ rw (c .before .room-for2 .ensures))
+
+returns-3 : tie.Need-returns-3
+returns-3 c =
+    let a = c .before .before .before .before .before .args in
+    told (λ x. replyMore x (a .c) (a .n) (a .room .now)) refl (c .before .enum-told .given .1) (rw (c .ended .ensures))
+
+returns-4 : tie.Need-returns-4
+returns-4 c =
+    let a = c .before .before .before .before .before .args in
+    told (λ x. replyMore x (a .c) (a .n) (a .room .now)) refl (c .before .enum-told2 .given .1) (rw (c .ended2 .ensures))
 
 pub reply-more-spec : {M : Type 1} → statement M
 reply-more-spec =
@@ -38,10 +38,10 @@ reply-more-spec =
     (λ c. search needs)
     (λ c κs. search needs)
     (λ c κs. search needs)
+    returns
     (λ c. search needs)
     (λ c κs. search needs)
     (λ c κs. search needs)
-    returns
     returns-2
     returns-3
     returns-4)

@@ -36,6 +36,6 @@ reply-sent-spec =
     (λ c κs. search needs)
     (λ c κs. search needs)
     returns
-    (λ c. search needs)
     returns-2
+    (λ c. search needs)
     returns-3)

@@ -9,13 +9,13 @@ use Rattle.connection.proofs.reply.reply_to.Tie as tie
 
 returns : tie.Need-returns
 returns c =
-    let a = c .before .before .before .before .before .before .before .before .before .before .args in
-    told (λ x. replyTo x (a .seq) (a .cmd) (a .payload .now) (a .c) (a .room .now)) refl (c .before .before .before .before .before .before .o .given .1) (is _ _ _ _ (c .before .if1 .taken) (c .reply-heard .ensures))
+    let a = c .before .before .before .before .args in
+    told (λ x. replyTo x (a .seq) (a .cmd) (a .payload .now) (a .c) (a .room .now)) refl (c .enum-told .given .1) refl
 
 returns-2 : tie.Need-returns-2
 returns-2 c =
-    let a = c .before .before .before .before .args in
-    told (λ x. replyTo x (a .seq) (a .cmd) (a .payload .now) (a .c) (a .room .now)) refl (c .enum-told .given .1) refl
+    let a = c .before .before .before .before .before .before .before .before .before .before .args in
+    told (λ x. replyTo x (a .seq) (a .cmd) (a .payload .now) (a .c) (a .room .now)) refl (c .before .before .before .before .before .before .o .given .1) (is _ _ _ _ (c .before .if1 .taken) (c .reply-heard .ensures))
 
 returns-3 : tie.Need-returns-3
 returns-3 c =
@@ -27,8 +27,8 @@ reply-to-spec =
     tie.close
     (tie.spec
     (λ c. search needs)
+    returns
     (λ c. search needs)
     (λ c κs. search needs)
-    returns
     returns-2
     returns-3)

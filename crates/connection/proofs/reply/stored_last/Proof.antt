@@ -23,6 +23,6 @@ stored-last-spec =
     (λ c. search needs)
     (λ c κs. search needs)
     (λ c κs. search needs)
-    (λ c. search needs)
     returns
+    (λ c. search needs)
     returns-2)

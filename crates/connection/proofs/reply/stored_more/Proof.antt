@@ -22,6 +22,6 @@ stored-more-spec =
     (tie.spec
     (λ c. search needs)
     (λ c κs. search needs)
-    (λ c. search needs)
     returns
+    (λ c. search needs)
     returns-2)

@@ -24,7 +24,7 @@ get-pending-request-spec =
     (tie.spec
     (λ c. search needs)
     (λ c κs. search needs)
+    returns
     (λ c. search needs)
     (λ c κs. search needs)
-    returns
     returns-2)

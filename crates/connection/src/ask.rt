@@ -65,7 +65,12 @@ pub(crate) fn ended(c: SdoClientConnection, why: Reason) -> SdoClientConnection
     ensures { λ r. ⌜ r ≡ endedWith c why ⌝ }
 {
     SdoClientConnection {
+        target_node_id: c.target_node_id,
+        room: c.room,
         state: SdoClientConnectionState::Closed,
+        transaction_id: c.transaction_id,
+        send_sequence_number: c.send_sequence_number,
+        last_received_sequence_number: c.last_received_sequence_number,
         waiting: Waiting {
             last_sent_command: Outstanding::Nothing,
             deadline: Deadline::Never,
@@ -273,10 +278,17 @@ fn given(
     let job = c.job;
     Stepped::Went(Step {
         connection: SdoClientConnection {
+            target_node_id: c.target_node_id,
+            room: c.room,
             state: s,
+            transaction_id: c.transaction_id,
             send_sequence_number: next_number(c.send_sequence_number),
+            last_received_sequence_number: c.last_received_sequence_number,
             job: SdoJob {
+                size: job.size,
                 offset: sent,
+                uploaded: job.uploaded,
+                delivered: job.delivered,
                 ..job
             },
             waiting: Waiting {

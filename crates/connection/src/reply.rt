@@ -73,6 +73,10 @@ fn cleared(c: SdoClientConnection, last: u8) -> SdoClientConnection
     ensures { λ r. ⌜ r ≡ clearedOf c last ⌝ }
 {
     SdoClientConnection {
+        target_node_id: c.target_node_id,
+        room: c.room,
+        transaction_id: c.transaction_id,
+        send_sequence_number: c.send_sequence_number,
         last_received_sequence_number: last,
         waiting: Waiting {
             last_sent_command: Outstanding::Nothing,
@@ -86,7 +90,15 @@ fn cleared(c: SdoClientConnection, last: u8) -> SdoClientConnection
 fn in_state(c: SdoClientConnection, s: SdoClientConnectionState) -> SdoClientConnection
     ensures { λ r. ⌜ r ≡ inState c s ⌝ }
 {
-    SdoClientConnection { state: s, ..c }
+    SdoClientConnection {
+        target_node_id: c.target_node_id,
+        room: c.room,
+        state: s,
+        transaction_id: c.transaction_id,
+        send_sequence_number: c.send_sequence_number,
+        last_received_sequence_number: c.last_received_sequence_number,
+        ..c
+    }
 }
 
 // The transaction after this one: 255 goes to 1.
@@ -106,6 +118,9 @@ fn delivered_one(j: SdoJob) -> SdoJob
     ensures { λ r. ⌜ r ≡ deliveredOne j ⌝ }
 {
     SdoJob {
+        size: j.size,
+        offset: j.offset,
+        uploaded: j.uploaded,
         delivered: one_more(j.delivered),
         ..j
     }
@@ -117,7 +132,15 @@ fn reply_next(d: DcfStep, c: SdoClientConnection) -> SdoClientConnection
 {
     let before = c.job;
     let job = delivered_one(before);
-    let done = SdoClientConnection { job, ..c };
+    let done = SdoClientConnection {
+        target_node_id: c.target_node_id,
+        room: c.room,
+        transaction_id: c.transaction_id,
+        send_sequence_number: c.send_sequence_number,
+        last_received_sequence_number: c.last_received_sequence_number,
+        job,
+        ..c
+    };
     match d {
         DcfStep::Entry {
             index,
@@ -127,9 +150,14 @@ fn reply_next(d: DcfStep, c: SdoClientConnection) -> SdoClientConnection
             next,
         } => {
             return SdoClientConnection {
+                target_node_id: c.target_node_id,
+                room: c.room,
                 state: SdoClientConnectionState::Established,
                 transaction_id: next_transaction(c.transaction_id),
+                send_sequence_number: c.send_sequence_number,
+                last_received_sequence_number: c.last_received_sequence_number,
                 job: SdoJob {
+                    size: job.size,
                     cursor: next,
                     loaded: LoadedTransfer::Loaded(Transfer {
                         index,
@@ -138,6 +166,8 @@ fn reply_next(d: DcfStep, c: SdoClientConnection) -> SdoClientConnection
                         len,
                     }),
                     offset: 0,
+                    uploaded: job.uploaded,
+                    delivered: job.delivered,
                     ..job
                 },
                 ..c
@@ -170,7 +200,18 @@ fn with_bytes(c: SdoClientConnection, n: usize) -> SdoClientConnection
 {
     let job = c.job;
     SdoClientConnection {
-        job: SdoJob { uploaded: n, ..job },
+        target_node_id: c.target_node_id,
+        room: c.room,
+        transaction_id: c.transaction_id,
+        send_sequence_number: c.send_sequence_number,
+        last_received_sequence_number: c.last_received_sequence_number,
+        job: SdoJob {
+            size: job.size,
+            offset: job.offset,
+            uploaded: n,
+            delivered: job.delivered,
+            ..job
+        },
         ..c
     }
 }

@@ -83,6 +83,8 @@ fn started(c: SdoClientConnection, tid: u8, n: Now, job: SdoJob) -> Changed
         return Changed::Refused(Refusal::DeadlineRange);
     };
     Changed::Connection(SdoClientConnection {
+        target_node_id: c.target_node_id,
+        room: c.room,
         state: SdoClientConnectionState::Opening,
         transaction_id: tid,
         send_sequence_number: 0,
@@ -94,7 +96,6 @@ fn started(c: SdoClientConnection, tid: u8, n: Now, job: SdoJob) -> Changed
             retries_left: retries_of(retries),
         },
         outcome: Outcome::Running,
-        ..c
     })
 }
 

@@ -80,6 +80,11 @@ fn retried(m: Moment, c: SdoClientConnection) -> Stepped
     match m {
         Moment::At(deadline) => return Stepped::Went(Step {
             connection: SdoClientConnection {
+                target_node_id: c.target_node_id,
+                room: c.room,
+                transaction_id: c.transaction_id,
+                send_sequence_number: c.send_sequence_number,
+                last_received_sequence_number: c.last_received_sequence_number,
                 waiting: Waiting {
                     deadline: Deadline::At(deadline),
                     retries_left: waiting.retries_left - 1,

@@ -102,7 +102,7 @@ fn in_state(c: SdoClientConnection, s: SdoClientConnectionState) -> SdoClientCon
 }
 
 // The transaction after this one: 255 goes to 1.
-pub(crate) fn next_transaction(t: u8) -> u8
+pub fn next_transaction(t: u8) -> u8
     ensures { λ r. ⌜ r ≡ nextTransaction t ⌝ }
 {
     if t == 255 { 1 } else { t + 1 }

@@ -1,0 +1,164 @@
+-- What a walk's answer says of the walk, and of the table that it leaves; a start's target; and the table that holds a list. Assumes nothing.
+use Prim.Native.Nat.{ℕ, suc, _-_, _≤_, _<_, min}
+use native.Mathlib.Omega.{arith}
+use mathlib.Core.Path.{_≡_, refl, sym, ap, _∙_}
+use mathlib.Core.Bool.{Bool, true, false}
+use mathlib.Core.List.{List, [], _∷_, _++_, append-nil}
+use lib.Dec.{leb}
+use lib.ListN.{length, take, drop, getD, set, drop-of-length-le, length-take}
+use lib.Seq.{take-all, take-at, take-append-seam}
+use borrow.Author.Tests.{leb-true, leb-false}
+use Rattle.laws.specs.Pick.{pick}
+use Rattle.codec.specs.Bytes.{Bytes}
+use Rattle.codec.specs.Writing.{bufferAfter}
+use Rattle.connection.specs.Payload.{payloadOf}
+use Rattle.connection.specs.Record.{newConnection}
+use Rattle.manager.specs.Calls.{refusing, leaving, roomIn, sentTo, walkedTo, walkedManager, walkedOutput, heldAt, repliedAs, takesNumber, targetAt, targetOf}
+use Rattle.manager.specs.Table.{blank, live, tableOf, findIn, freeRoom}
+use Rattle.manager.specs.Types.{
+  Answer,
+  Changed,
+  Done,
+  Found,
+  Now,
+  Outgoing,
+  Refusal,
+  SdoClientConnection,
+  SdoClientManager,
+  Sends,
+  Step,
+  Stepped,
+  Target,
+  Turn,
+  Walk,
+  Walked,
+}
+use Rattle.manager.specs.Walk.{Walking, refused, through, stopped, passed, stopOr, turned, walkStep, walkList, walkAnswer, walkOf}
+
+-- the list that a table holds comes back
+pub live-table : (l : List SdoClientConnection) (number : ℕ) → live (tableOf l number) ≡ l
+live-table l number = take-append-seam l _
+
+-- a reply that changes its connection
+pub replied-connection : (x : Changed) (place : ℕ) (m after : SdoClientManager) (c : SdoClientConnection) (d : Done)
+    → x ≡ Changed.Connection c → after ≡ tableOf (set (live m) place c) (m .«next_transaction_id»)
+    → d ≡ leaving (live after) (after .«next_transaction_id») Answer.Nothing → d ≡ repliedAs x place m
+replied-connection x place m after c d e f h =
+    h ∙ rw (f, live-table (set (live m) place c) (m .«next_transaction_id»), e)
+
+-- a refusal that takes a number, and one that does not
+module _ (r : Refusal) (before stepped : SdoClientManager) (takes : Bool) (d : Done) where
+  pub refused-number : (s : SdoClientManager) → d ≡ refusing s r → s ≡ stepped → takes ≡ takesNumber r → takes ≡ true
+      → d ≡ refusing (pick (takesNumber r) stepped before) r
+  unfolding pick
+  refused-number s h e f g = h ∙ rw (e, ← f, g)
+
+  pub refused-plain : d ≡ refusing before r → takes ≡ takesNumber r → takes ≡ false
+      → d ≡ refusing (pick (takesNumber r) stepped before) r
+  unfolding pick
+  refused-plain h f g = h ∙ rw (← f, g)
+
+-- a walk leaves as many connections as there were
+abbrev Long : ℕ → Walking → Type 0
+Long n (refused r) = Unit
+Long n (through l) = length l ≡ n
+Long n (stopped k o l) = length l ≡ n
+
+passed-long : (d : SdoClientConnection) (n : ℕ) (w : Walking) → Long n w → Long (suc n) (passed d w)
+passed-long d n (refused r) h = tt
+passed-long d n (through l) h = ap suc h
+passed-long d n (stopped k o l) h = ap suc h
+
+walk-long : (t : Turn) (now : Now) (l : List SdoClientConnection) → Long (length l) (walkList t now l)
+walk-long t now [] = refl
+walk-long t now (c ∷ l) = step (turned t c now) (walk-long t now l)
+  where
+    stop : (s : Sends) (d : SdoClientConnection) → Long (length l) (walkList t now l)
+        → Long (suc (length l)) (stopOr s d l (walkList t now l))
+    stop (Sends.Gives o) d h = refl
+    stop Sends.Silent d h = passed-long d (length l) (walkList t now l) h
+
+    step : (a : Stepped) → Long (length l) (walkList t now l) → Long (suc (length l)) (walkStep a l (walkList t now l))
+    step (Stepped.Refused r) h = tt
+    step (Stepped.Went s) h = stop (s .sends) (s .connection) h
+
+-- the held part of the array that a walk leaves is the walk's list
+live-after : (m : SdoClientManager) (l : List SdoClientConnection) → length l ≡ length (live m)
+    → take (m .count) (l ++ drop (m .count) (m .connections)) ≡ l
+live-after m l h = go (leb (m .count) (length (m .connections))) refl
+  where
+    n : length l ≡ min (m .count) (length (m .connections))
+    n = h ∙ length-take (m .count) (m .connections)
+
+    go : (b : Bool) → leb (m .count) (length (m .connections)) ≡ b → take (m .count) (l ++ drop (m .count) (m .connections)) ≡ l
+    go true e = let k = leb-true (m .count) (length (m .connections)) e in take-at l _ (m .count) (omega (arith, n))
+    go false e =
+        let k = leb-false (m .count) (length (m .connections)) e in
+        rw (drop-of-length-le (m .connections) {i = m .count} (omega arith), append-nil l) (take-all (m .count) l (omega (arith, n)))
+
+-- each answer of the walk, by the walk that gave it
+module _ (m : SdoClientManager) (t : Turn) (now : Now) (store output : Bytes) (w : Walk) (e : w ≡ walkOf m t now) where
+  abbrev W : Walking
+  W = walkList t now (live m)
+
+  pub turn-refused : (r : Refusal) → w .walked ≡ Walked.Refused r
+      → (refusing m r ≡ walkedTo m W) × (output ≡ walkedOutput W store output)
+  unfolding walkOf
+  turn-refused r f = go W e
+    where
+      go : (x : Walking) → w ≡ walkAnswer (m .connections) (drop (m .count) (m .connections)) x
+          → (refusing m r ≡ walkedTo m x) × (output ≡ walkedOutput x store output)
+      go (refused q) g = let same : r ≡ q = cc (ap (λ (v : Walk). v .walked) g) in (ap (refusing m) same, refl)
+      go (through l) g = let z : _≡_ {A = ℕ} 0 1 = cc (ap (λ (v : Walk). v .walked) g) in absurd (omega arith)
+      go (stopped k o l) g = let z : _≡_ {A = ℕ} 0 1 = cc (ap (λ (v : Walk). v .walked) g) in absurd (omega arith)
+
+  pub turn-through : w .walked ≡ Walked.Through
+      → (leaving (live (walkedManager m w)) (m .«next_transaction_id») Answer.Nothing ≡ walkedTo m W)
+      × (output ≡ walkedOutput W store output)
+  unfolding walkOf
+  turn-through f = go W e (walk-long t now (live m))
+    where
+      go : (x : Walking) → w ≡ walkAnswer (m .connections) (drop (m .count) (m .connections)) x → Long (length (live m)) x
+          → (leaving (live (walkedManager m w)) (m .«next_transaction_id») Answer.Nothing ≡ walkedTo m x)
+          × (output ≡ walkedOutput x store output)
+      go (refused q) g h = let z : _≡_ {A = ℕ} 0 1 = cc (ap (λ (v : Walk). v .walked) g) in absurd (omega arith)
+      go (through l) g h = (rw (g, live-after m l h), refl)
+      go (stopped k o l) g h = let z : _≡_ {A = ℕ} 0 1 = cc (ap (λ (v : Walk). v .walked) g) in absurd (omega arith)
+
+  pub turn-stopped : (k : ℕ) (o : Outgoing) (c : SdoClientConnection) (after : Bytes) → w .walked ≡ Walked.Stopped k o
+      → c ≡ heldAt (walkedManager m w) k → after ≡ bufferAfter (payloadOf (roomIn store c) o) output
+      → (leaving (live (walkedManager m w)) (m .«next_transaction_id») (sentTo c o) ≡ walkedTo m W)
+      × (after ≡ walkedOutput W store output)
+  unfolding walkOf
+  turn-stopped k o c after f ec ea = go W e (walk-long t now (live m))
+    where
+      go : (x : Walking) → w ≡ walkAnswer (m .connections) (drop (m .count) (m .connections)) x → Long (length (live m)) x
+          → (leaving (live (walkedManager m w)) (m .«next_transaction_id») (sentTo c o) ≡ walkedTo m x)
+          × (after ≡ walkedOutput x store output)
+      go (refused q) g h = let z : _≡_ {A = ℕ} 0 1 = cc (ap (λ (v : Walk). v .walked) g) in absurd (omega arith)
+      go (through l) g h = let z : _≡_ {A = ℕ} 0 1 = cc (ap (λ (v : Walk). v .walked) g) in absurd (omega arith)
+      go (stopped j p l) g h =
+          let ej : k ≡ j = cc (ap (λ (v : Walk). v .walked) g) in
+          let ep : o ≡ p = cc (ap (λ (v : Walk). v .walked) g) in
+          let el : live (walkedManager m w) ≡ l = rw (g, live-after m l h) in
+          let es : c ≡ getD l j blank = ec ∙ rw (el, ej) in
+          (rw (el, es, ep), ea ∙ rw (es, ep))
+
+-- a start for a new node is taken only below eight
+abbrev pub Room : SdoClientManager → Target → Type 0
+Room m (Target.Held k c) = Unit
+Room m (Target.New c) = length (live m) < 8
+Room m Target.Full = Unit
+
+pub target-room : (m : SdoClientManager) (node : ℕ) → Room m (targetOf m node)
+unfolding targetOf pick
+target-room m node = go (findIn node (live m))
+  where
+    new : (b : Bool) → leb 8 (length (live m)) ≡ b
+        → Room m (pick b Target.Full (Target.New (newConnection node (freeRoom (live m)))))
+    new true e = tt
+    new false e = leb-false 8 (length (live m)) e
+
+    go : (f : Found) → Room m (targetAt f m node)
+    go (Found.At k) = tt
+    go Found.Absent = new (leb 8 (length (live m))) refl

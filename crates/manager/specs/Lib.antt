@@ -1,0 +1,5 @@
+pub mod Calls
+pub mod Sweep
+pub mod Table
+pub mod Types
+pub mod Walk

@@ -1,0 +1,25 @@
+-- The types that the manager's definitions speak of, under one name.
+pub use Rattle.codec.specs.declared.command.SdoCommand.{SdoCommand}
+pub use Rattle.codec.specs.declared.refusal.Refusal.{Refusal}
+pub use Rattle.codec.specs.declared.sequence.SequenceLayerHeader.{SequenceLayerHeader}
+pub use Rattle.connection.specs.declared.types.Changed.{Changed}
+pub use Rattle.connection.specs.declared.types.Deadline.{Deadline}
+pub use Rattle.connection.specs.declared.types.End.{End}
+pub use Rattle.connection.specs.declared.types.EndFound.{EndFound}
+pub use Rattle.connection.specs.declared.types.Now.{Now}
+pub use Rattle.connection.specs.declared.types.Outgoing.{Outgoing}
+pub use Rattle.connection.specs.declared.types.Reason.{Reason}
+pub use Rattle.connection.specs.declared.types.SdoClientConnection.{SdoClientConnection}
+pub use Rattle.connection.specs.declared.types.Sends.{Sends}
+pub use Rattle.connection.specs.declared.types.Step.{Step}
+pub use Rattle.connection.specs.declared.types.Stepped.{Stepped}
+pub use Rattle.manager.specs.declared.types.Answer.{Answer}
+pub use Rattle.manager.specs.declared.types.Done.{Done}
+pub use Rattle.manager.specs.declared.types.Ends.{Ends}
+pub use Rattle.manager.specs.declared.types.Found.{Found}
+pub use Rattle.manager.specs.declared.types.SdoClientManager.{SdoClientManager}
+pub use Rattle.manager.specs.declared.types.SentTo.{SentTo}
+pub use Rattle.manager.specs.declared.types.Target.{Target}
+pub use Rattle.manager.specs.declared.types.Turn.{Turn}
+pub use Rattle.manager.specs.declared.types.Walk.{Walk}
+pub use Rattle.manager.specs.declared.types.Walked.{Walked}

@@ -1,0 +1,121 @@
+// Tick and ask: the walk, the payload at the start of the output, and the ended connections removed.
+ghost use mathlib.Core.Path.{_≡_};
+ghost use Rattle.manager.specs.Calls.{
+  refusing as refusingOf,
+  leaving as leavingOf,
+  sentTo,
+  walkedManager,
+  turnOf,
+  turnOutput,
+};
+ghost use Rattle.manager.specs.Table.{live};
+use crate::room::room_in;
+use crate::sweep::ends_of;
+use crate::sweep::swept;
+use crate::table::held_at;
+use crate::types::Answer;
+use crate::types::Done;
+use crate::types::SdoClientManager;
+use crate::types::SentTo;
+use crate::types::Turn;
+use crate::types::Walk;
+use crate::types::Walked;
+use crate::types::no_ends;
+use crate::walk::walk;
+use codec::refusal::Refusal;
+use connection::payload::write_payload;
+use connection::types::Now;
+use connection::types::Outgoing;
+use connection::types::SdoClientConnection;
+
+// A call that refuses.
+pub(crate) fn refusing(m: SdoClientManager, r: Refusal) -> Done
+    ensures { λ d. ⌜ d ≡ refusingOf m r ⌝ }
+{
+    Done {
+        manager: m,
+        answer: Answer::Refused(r),
+        ends: no_ends(),
+    }
+}
+
+// A call that went through: the ended connections are removed and reported.
+pub(crate) fn leaving(m: SdoClientManager, answer: Answer) -> Done
+    ensures { λ d. ⌜ d ≡ leavingOf (live m) (m .«next_transaction_id») answer ⌝ }
+{
+    Done {
+        manager: swept(m),
+        answer,
+        ends: ends_of(m),
+    }
+}
+
+// One call that walks: ask or tick.
+fn turn(t: Turn, m: SdoClientManager, n: Now, store: &[u8], output: &mut [u8]) -> Done
+    ensures { λ d. ⌜ d ≡ turnOf t m n (now (store .entry)) (now (output .entry)) ⌝ }
+    ensures { λ _. ⌜ now (output .exit) ≡ turnOutput t m n (now (store .entry)) (now (output .entry)) ⌝ }
+{
+    if store.len() == 32768 {
+        if output.len() < 1452 {
+            return refusing(m, Refusal::BufferTooShort);
+        }
+        let w = walk(m, t, n);
+        let walked = w.walked;
+        let after = walked_manager(m, w);
+        match walked {
+            Walked::Refused(r) => {
+                return refusing(m, r);
+            }
+            Walked::Through => {
+                return leaving(after, Answer::Nothing);
+            }
+            Walked::Stopped(k, o) => {
+                let c = held_at(after, k);
+                write_payload(o, room_in(store, c), output);
+                return leaving(after, sent_to(c, o));
+            }
+        }
+    }
+    refusing(m, Refusal::WrongStore)
+}
+
+// The manager with the table that a walk left.
+fn walked_manager(m: SdoClientManager, w: Walk) -> SdoClientManager
+    ensures { λ r. ⌜ r ≡ walkedManager m w ⌝ }
+{
+    let connections = w.connections;
+    SdoClientManager { connections, ..m }
+}
+
+fn sent_to(c: SdoClientConnection, o: Outgoing) -> Answer
+    ensures { λ r. ⌜ r ≡ sentTo c o ⌝ }
+{
+    let sequence = o.sequence;
+    let command = o.command;
+    Answer::Sent(SentTo {
+        node: c.target_node_id,
+        sequence,
+        command,
+    })
+}
+
+impl SdoClientManager {
+    // What is to be sent next, to whom, its payload at the start of the output; and the jobs that are done. Call it when a frame can go
+    // out. 9 for a store that isn't 32,768 bytes, 1 for an output under 1,452, 8 where a deadline on the walk does not fit; then nothing
+    // has happened.
+    pub fn get_pending_request(self, when: Now, store: &[u8], output: &mut [u8]) -> Done
+        ensures { λ d. ⌜ d ≡ turnOf Turn.Asking self «when» (now (store .entry)) (now (output .entry)) ⌝ }
+        ensures { λ _. ⌜ now (output .exit) ≡ turnOutput Turn.Asking self «when» (now (store .entry)) (now (output .entry)) ⌝ }
+    {
+        turn(Turn::Asking, self, when, store, output)
+    }
+
+    // What the deadlines that have passed bring about: a repeat or an abort to send, and ends. Call it when next_action_time has come.
+    // Refusals as of get_pending_request.
+    pub fn tick(self, when: Now, store: &[u8], output: &mut [u8]) -> Done
+        ensures { λ d. ⌜ d ≡ turnOf Turn.Ticking self «when» (now (store .entry)) (now (output .entry)) ⌝ }
+        ensures { λ _. ⌜ now (output .exit) ≡ turnOutput Turn.Ticking self «when» (now (store .entry)) (now (output .entry)) ⌝ }
+    {
+        turn(Turn::Ticking, self, when, store, output)
+    }
+}

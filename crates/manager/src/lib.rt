@@ -1,0 +1,12 @@
+// The manager of eight (document 01, "The manager"): the interface that the panel calls. A manager is plain data by value; the bytes of
+// its jobs lie in a store of 32,768 bytes that the caller lends, a room of 4,096 for each connection held. Every function is total on any
+// manager and any slices.
+pub mod ask;
+pub mod next;
+pub mod reply;
+pub(crate) mod room;
+pub mod start;
+pub(crate) mod sweep;
+pub(crate) mod table;
+pub mod types;
+pub(crate) mod walk;

@@ -1,0 +1,39 @@
+// next_action_time: when the host should call tick next.
+ghost use mathlib.Core.Path.{_≡_};
+ghost use Prim.Native.Nat.{min};
+ghost use Rattle.manager.specs.Calls.{sooner as soonerOf, leastDeadline};
+ghost use Rattle.manager.specs.Table.{live};
+use crate::table::lived;
+use crate::types::SdoClientManager;
+use connection::types::Deadline;
+
+fn sooner(a: Deadline, b: Deadline) -> Deadline
+    ensures { λ r. ⌜ r ≡ soonerOf a b ⌝ }
+{
+    match a {
+        Deadline::Never => b,
+        Deadline::At(x) => match b {
+            Deadline::Never => Deadline::At(x),
+            Deadline::At(y) => Deadline::At(if x < y { x } else { y }),
+        },
+    }
+}
+
+impl SdoClientManager {
+    // The least deadline of the connections held, or none. It changes with every start, reply, tick and ask.
+    pub fn next_action_time(self) -> Deadline
+        ensures { λ r. ⌜ r ≡ leastDeadline (live self) ⌝ }
+    {
+        let old = self.connections;
+        let mut i = lived(self);
+        let mut least = Deadline::Never;
+        while 0 < i {
+            i -= 1;
+            let c = old[i];
+            let waiting = c.waiting;
+            let deadline = waiting.deadline;
+            least = sooner(deadline, least);
+        }
+        least
+    }
+}

@@ -1,4 +1,5 @@
--- Both sides of each edge (document 01): the table of the cases marked P, and what the definitions make of each. P7 to P10.
+-- Both sides of each edge (document 01): the table of the cases marked P, and what the definitions make of each. P1 to P10.
+use Prim.Native.Nat.{ℕ}
 use mathlib.Core.List.{List, [], _∷_}
 use lib.Dec.{eqb}
 use lib.ListN.{length}
@@ -6,9 +7,13 @@ use Rattle.laws.specs.Pick.{pick}
 use Rattle.codec.specs.Bytes.{Bytes}
 use Rattle.codec.specs.Dcf.{countOf, readableEntries}
 use Rattle.codec.specs.Sequence.{sequenceRead}
+use Rattle.codec.specs.declared.command.DataSize.{DataSize}
+use Rattle.codec.specs.declared.command.Segmentation.{Segmentation}
 use Rattle.codec.specs.declared.sequence.ReceiveConnState.{ReceiveConnState}
 use Rattle.codec.specs.declared.sequence.SendConnState.{SendConnState}
 use Rattle.codec.specs.declared.sequence.SequenceRead.{SequenceRead}
+use Rattle.connection.specs.Parts.{limit}
+use Rattle.connection.specs.PartsOf.{Part, partsOf}
 
 -- a DCF is Complete exactly when all counted entries are readable, else Cut
 pub data Ending : Type 0 where
@@ -18,10 +23,18 @@ pub data Ending : Type 0 where
 abbrev pub endingOf : Bytes → Ending
 endingOf b = pick (eqb (length (readableEntries b)) (countOf b)) complete cut
 
--- a case, with what is found there
+-- a case, with what is found there: the parts of a total, the entries of a DCF, a sequence header
 pub data Edge : Type 0 where
+  total : ℕ → List Part → Edge
   dcf : Bytes → List Bytes → Ending → Edge
   sequence : Bytes → SequenceRead → Edge
+
+-- a part with no data size, and one with it
+abbrev pub part : Segmentation → ℕ → Part
+part kind length = record { kind = kind; length = length; size = DataSize.Absent }
+
+abbrev pub initiate : ℕ → ℕ → Part
+initiate length size = record { kind = Segmentation.Initiate; length = length; size = DataSize.Present size }
 
 abbrev pub p7 : Bytes
 p7 =
@@ -45,7 +58,13 @@ second = 0x01 ∷ 0x21 ∷ 0x00 ∷ 0x00 ∷ []
 
 abbrev pub table : List Edge
 table =
-    dcf p7 (first ∷ second ∷ []) complete
+    total 1452 (part Segmentation.Expedited 1452 ∷ [])
+    ∷ total 1453 (part Segmentation.Expedited 1452 ∷ part Segmentation.Complete 1 ∷ [])
+    ∷ total 1456 (part Segmentation.Expedited 1452 ∷ part Segmentation.Complete 4 ∷ [])
+    ∷ total 1457 (initiate 1452 1453 ∷ part Segmentation.Complete 5 ∷ [])
+    ∷ total 2904 (initiate 1452 2900 ∷ part Segmentation.Complete 1452 ∷ [])
+    ∷ total 2905 (initiate 1452 2901 ∷ part Segmentation.Segment 1452 ∷ part Segmentation.Complete 1 ∷ [])
+    ∷ dcf p7 (first ∷ second ∷ []) complete
     ∷ dcf p8 (first ∷ []) cut
     ∷ dcf (0x00 ∷ 0x00 ∷ 0x00 ∷ 0x00 ∷ []) [] complete
     ∷ sequence (0xFE ∷ 0x00 ∷ 0x00 ∷ 0x00 ∷ [])
@@ -60,5 +79,6 @@ table =
 
 -- the case as the definitions make it
 abbrev pub made : Edge → Edge
+made (total n parts) = total n (partsOf limit n)
 made (dcf b entries ending) = dcf b (readableEntries b) (endingOf b)
 made (sequence b read) = sequence b (sequenceRead b)

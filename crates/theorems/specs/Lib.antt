@@ -1,1 +1,10 @@
+pub mod Causes
+pub mod Demand
 pub mod Edges
+pub mod Quiet
+pub mod Reports
+pub mod Run
+pub mod Sound
+pub mod Types
+pub mod Untouched
+pub mod Worked

@@ -1,0 +1,171 @@
+-- Demand 3 over a sound manager, by induction over the calls. Assumes nothing.
+use Prim.Native.Nat.{ℕ, _<_}
+use mathlib.Core.Path.{_≡_, refl, sym, _∙_, subst}
+use mathlib.Core.List.{List, [], _∷_}
+use lib.ListN.{length, set}
+use Rattle.codec.specs.Bytes.{Bytes, placed}
+use Rattle.connection.specs.Delivery.{For, pieces}
+use Rattle.connection.specs.Jobs.{Job as Sends, bytesOf, counted, entriesOf, loads, startOf, writes}
+use Rattle.connection.proofs.Carrying.{Aim, beginning, joinedBy}
+use Rattle.connection.proofs.Delivered.{joined-both}
+use Rattle.connection.proofs.Starting.{Begun, aimOf, begun}
+use Rattle.manager.specs.Calls.{heldAt, jobRoom, numberOf, roomIn, startJob}
+use Rattle.manager.specs.Table.{blank, freeRoom, insertIn, live, storeSize, tableOf}
+use Rattle.theorems.specs.Demand.{Log, asked, endFor, follow, jobOf, unlessEnded}
+use Rattle.theorems.specs.Run.{After, Call, called, starts}
+use Rattle.theorems.specs.Sound.{All, Slotted, Sound}
+use Rattle.theorems.specs.Types.{
+  Answer,
+  Changed,
+  End,
+  EndFound,
+  Now,
+  Outcome,
+  SdoClientConnection as Connection,
+  SdoClientManager as Manager,
+}
+use Rattle.theorems.proofs.Alls.{all-at, all-by}
+use Rattle.theorems.proofs.Cases.{Absent, At, live-table}
+use Rattle.theorems.proofs.Delivering.{call-good}
+use Rattle.theorems.proofs.Fixing.{Same}
+use Rattle.theorems.proofs.FreeRooms.{free-nobodys, free-slotted}
+use Rattle.theorems.proofs.JobRooms.{started-room, started-same}
+use Rattle.theorems.proofs.Ordering.{nowhere, ordered-tracks}
+use Rattle.theorems.proofs.Rooms.{put-own, roomAt, room-length}
+use Rattle.theorems.proofs.StartBy.{fresh, start-by, startOn, storeWith}
+use Rattle.theorems.proofs.Tracked.{Held, Stands, Tracks, here, there, insert-own, tracks-own}
+
+-- ---- by induction over the calls
+module _ (a : Aim) (node at : ℕ) (slot : Slotted at) where
+  tracked-begins : {l : List Connection} (got : List Bytes) → Tracks node at (Held a got) l
+      → For (a .entries) (a .count) got Outcome.Running 0
+  tracked-begins got (here e f h o) = beginning (h .carries)
+  tracked-begins got (there o t) = tracked-begins got t
+
+  abbrev Brings : List Bytes → Log → Type 0
+  Brings got l = For (a .entries) (a .count) (joinedBy got (l .sent)) (l .outcome) (l .figure)
+
+  -- a job whose end was reported has its log closed
+  go-on : (now : List Bytes) (l : List Connection) (on : Log) (x : EndFound) → Stands a node at now l x
+      → (Tracks node at (Held a now) l → Brings now on) → Brings now (unlessEnded x on)
+  go-on now l on EndFound.Running s more = more s
+  go-on now l on (EndFound.End e) s more = s
+
+  pub followed : (xs : List Call) (m : Manager) (store : Bytes) (got : List Bytes) → roomAt store at ≡ a .room
+      → Tracks node at (Held a got) (live m) → Brings got (follow node m store xs)
+  followed [] m store got same t = tracked-begins got t
+  followed (x ∷ xs) m store got same t =
+      let d : After = called m store x in
+      let g = call-good a node at slot got m store same t x in
+      let now : List Bytes = joinedBy got (asked node x d) in
+      rw (joined-both got (asked node x d) _)
+      (go-on now (live (d .manager)) (follow node (d .manager) (d .store) xs) (endFor node (d .ends)) (g .stands)
+      (λ u. followed xs (d .manager) (d .store) now (g .same) u))
+
+-- ---- the start of the job itself
+abbrev aimIn : Sends → Bytes → Aim
+aimIn job room = record { room = room; job = bytesOf job; entries = entriesOf job; count = counted job }
+
+start-of : (job : Sends) (c : Connection) (t : ℕ) (n : Now) (room : Bytes) → startJob (jobOf job) c t n room ≡ startOf c t n job room
+start-of (writes index sub bytes) c t n room = refl
+start-of (loads dcf) c t n room = refl
+
+room-of : (job : Sends) (d : Connection) (room : Bytes) → jobRoom (jobOf job) (Changed.Connection d) room ≡ placed room 0 (bytesOf job)
+room-of (writes index sub bytes) d room = refl
+room-of (loads dcf) d room = refl
+
+held-of : (a : Aim) (d : Connection) (x : Changed) → x ≡ Changed.Connection d → Begun a x → Held a [] d
+unfolding Begun
+held-of a d x e b = let (i, r) = subst (Begun a) e b in record { carries = i; runs = r }
+
+-- what a start that was taken has begun: its bytes are in its room, and the node is tracked
+pub record Begins (node : ℕ) (job : Sends) (m : Manager) (store : Bytes) : Type 0 where
+  pub at : ℕ
+  pub slot : Slotted at
+  pub aim : Aim
+  pub entries : aim .entries ≡ entriesOf job
+  pub count : aim .count ≡ counted job
+  pub same : roomAt store at ≡ aim .room
+  pub tracks : Tracks node at (Held aim []) (live m)
+
+abbrev BeginsIf : ℕ → Sends → Manager → Bytes → Answer → Type 0
+BeginsIf node job m store Answer.Nothing = Begins node job m store
+BeginsIf node job m store (Answer.Sent s) = Unit {0}
+BeginsIf node job m store (Answer.Refused r) = Unit {0}
+
+module _ (m : Manager) (store : Bytes) (sound : Sound m store) (node : ℕ) (job : Sends) (n : Now) where
+  slots : All (λ (c : Connection). Slotted (c .room)) (live m)
+  slots = all-by _ (λ (c : Connection). Slotted (c .room)) (λ c s. s .slotted) (live m) (sound .each)
+
+  module _ (long : length store ≡ storeSize) (c d : Connection) (slot : Slotted (c .room))
+      (e : startOn m (jobOf job) n store c ≡ Changed.Connection d) where
+    abbrev aim : Aim
+    aim = aimOf job (roomIn store c)
+
+    held : Held aim [] d
+    held =
+        held-of aim d (startOf c (numberOf m) n job (roomIn store c))
+        (sym (start-of job c (numberOf m) n (roomIn store c)) ∙ e)
+        (begun c (numberOf m) n job (roomIn store c))
+
+    fixed : Same c d
+    fixed = started-same (jobOf job) c d (numberOf m) n (roomIn store c) e
+
+    stored : roomAt (storeWith (jobOf job) store c d) (c .room) ≡ aim .room
+    stored =
+        put-own store long (c .room) _
+        (started-room (jobOf job) c d (numberOf m) n (roomIn store c) e ∙ room-length store long (c .room))
+        ∙ room-of job d (roomIn store c)
+
+    -- the list that the table then holds
+    begins : (l : List Connection) → Tracks node (c .room) (Held aim []) l
+        → Begins node job (tableOf l (numberOf m)) (storeWith (jobOf job) store c d)
+    begins l t =
+        record {
+          at = c .room;
+          slot = slot;
+          aim = aim;
+          entries = refl;
+          count = refl;
+          same = stored;
+          tracks = subst (Tracks node (c .room) (Held aim [])) (sym (live-table l (numberOf m))) t;
+        }
+
+  again : (k : ℕ) (d : Connection) → length store ≡ storeSize → At node (live m) k
+      → startOn m (jobOf job) n store (heldAt m k) ≡ Changed.Connection d
+      → Begins node job (tableOf (set (live m) k d) (numberOf m)) (storeWith (jobOf job) store (heldAt m k) d)
+  again k d long found e =
+      let slot : Slotted (heldAt m k .room) = all-at (λ (c : Connection). Slotted (c .room)) (live m) k blank (found .1) slots in
+      begins long (heldAt m k) d slot e (set (live m) k d)
+      (tracks-own node (heldAt m k .room) (λ (c : Connection). Unit {0}) (Held (aim long (heldAt m k) d slot e) []) k d
+      (found .1) (found .0)
+      (fixed long (heldAt m k) d slot e) (held long (heldAt m k) d slot e)
+      (ordered-tracks node (live m) (sound .ordered) slots k found))
+
+  enters : (d : Connection) → length store ≡ storeSize → Absent node (live m) → length (live m) < 8
+      → startOn m (jobOf job) n store (fresh m node) ≡ Changed.Connection d
+      → Begins node job (tableOf (insertIn d (live m)) (numberOf m)) (storeWith (jobOf job) store (fresh m node) d)
+  enters d long none few e =
+      let c : Connection = fresh m node in
+      let slot : Slotted (freeRoom (live m)) = free-slotted (live m) in
+      let s : Same c d = fixed long c d slot e in
+      begins long c d slot e (insertIn d (live m))
+      (insert-own node (freeRoom (live m)) (Held (aim long c d slot e) []) d (s .0) (s .1) (held long c d slot e) (live m)
+      (nowhere node (freeRoom (live m)) (live m) none (free-nobodys (live m) few) slots))
+
+  started : let x : After = called m store (starts node (jobOf job) n) in BeginsIf node job (x .manager) (x .store) (x .answer)
+  unfolding called
+  started =
+      start-by m node (jobOf job) n store (λ (k : Manager) (s : Bytes) (x : Answer) (es : List End). BeginsIf node job k s x)
+      (λ r. tt) (λ r. tt) again enters (λ r long none few. tt)
+
+  -- of a sound manager
+  pub delivered : (calls : List Call)
+      → let start : After = called m store (starts node (jobOf job) n) in
+      let log : Log = follow node (start .manager) (start .store) calls in
+      start .answer ≡ Answer.Nothing
+      → For (entriesOf job) (counted job) (pieces (log .sent)) (log .outcome) (log .figure)
+  delivered calls e =
+      let x : After = called m store (starts node (jobOf job) n) in
+      let b : Begins node job (x .manager) (x .store) = subst (BeginsIf node job (x .manager) (x .store)) e started in
+      rw (← b .entries, ← b .count) (followed (b .aim) node (b .at) (b .slot) calls (x .manager) (x .store) [] (b .same) (b .tracks))

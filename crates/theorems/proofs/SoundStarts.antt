@@ -1,0 +1,156 @@
+-- A start leaves a sound manager sound, with the store that it leaves. Assumes nothing.
+use Prim.Native.Nat.{ℕ, _+_, _<_}
+use native.Mathlib.Omega.{arith}
+use mathlib.Core.Path.{_≡_, refl, sym, _∙_, ap, subst}
+use mathlib.Core.List.{List}
+use lib.Dec.{ltb, leb}
+use lib.ListN.{length, set}
+use Rattle.codec.specs.Bytes.{Bytes}
+use Rattle.connection.specs.Deadline.{deadlineOf}
+use Rattle.connection.specs.Start.{capacity, isIdle, startDcf, startRead, startWrite, started, startedAt}
+use Rattle.connection.proofs.Choices.{either}
+use Rattle.connection.proofs.MadeSound.{new-sound}
+use Rattle.manager.specs.Calls.{Job, heldAt, jobRoom, loads, numberOf, reads, roomIn, startJob, stepped, writes}
+use Rattle.manager.specs.Table.{freeRoom, insertIn, live, placeIn, roomSize, storeSize, tableOf}
+use Rattle.theorems.specs.Run.{called, starts}
+use Rattle.theorems.specs.Sound.{All, Sane, Slotted, Sound}
+use Rattle.theorems.specs.Types.{
+  Answer,
+  Changed,
+  End,
+  Moment,
+  Now,
+  Outcome,
+  Refusal,
+  SdoClientConnection as Connection,
+  SdoClientManager as Manager,
+  SdoJob,
+}
+use Rattle.theorems.proofs.Alls.{all-by, all-insert, all-set}
+use Rattle.theorems.proofs.Cases.{Absent, At}
+use Rattle.theorems.proofs.Fixing.{Same}
+use Rattle.theorems.proofs.FreeRooms.{Nobodys, free-nobodys, free-slotted}
+use Rattle.theorems.proofs.JobRooms.{started-room, started-same}
+use Rattle.theorems.proofs.Ordering.{ordered-insert}
+use Rattle.theorems.proofs.Rooms.{room-length}
+use Rattle.theorems.proofs.SoundCalls.{few-set, fit-new, ordered-set, sane-there, slot-at, started-sound}
+use Rattle.theorems.proofs.Sounding.{insert-length, number-next, sane-of, sound-table}
+use Rattle.theorems.proofs.StartBy.{fresh, start-by, startOn, storeWith}
+
+-- ---- a job that starts runs
+unfoldable Runs : Changed → Type 0
+Runs (Changed.Connection d) = d .outcome ≡ Outcome.Running
+Runs (Changed.Refused r) = Unit {0}
+
+refused-runs : (r : Refusal) → Runs (Changed.Refused r)
+unfolding Runs
+refused-runs r = tt
+
+begun-runs : (c : Connection) (t : ℕ) (n : Now) (job : SdoJob) → Runs (started c t n job)
+unfolding Runs started
+begun-runs c t n job = go (deadlineOf (n .time) (n .timeout))
+  where
+    go : (m : Moment) → Runs (startedAt m c t n job)
+    go Moment.OutOfRange = tt
+    go (Moment.At due) = refl
+
+start-runs : (job : Job) (c : Connection) (t : ℕ) (n : Now) (room : Bytes) → Runs (startJob job c t n room)
+unfolding startWrite startRead startDcf
+start-runs (writes index sub bytes) c t n room =
+    either Runs (isIdle (c .state)) _ _
+    (either Runs (leb (4 + length bytes) (capacity room)) _ _ (begun-runs c t n _) (refused-runs Refusal.NoRoom))
+    (refused-runs Refusal.Busy)
+start-runs (reads index sub) c t n room = either Runs (isIdle (c .state)) _ _ (begun-runs c t n _) (refused-runs Refusal.Busy)
+start-runs (loads dcf) c t n room =
+    either Runs (isIdle (c .state)) _ _
+    (either Runs (ltb (length dcf) 4) _ _ (refused-runs Refusal.DcfTooShort)
+    (either Runs (leb (length dcf) (capacity room)) _ _ (begun-runs c _ n _) (refused-runs Refusal.NoRoom)))
+    (refused-runs Refusal.Busy)
+
+runs-of : (d : Connection) (x : Changed) → x ≡ Changed.Connection d → Runs x → d .outcome ≡ Outcome.Running
+unfolding Runs
+runs-of d x e r = subst Runs e r
+
+module _ (m : Manager) (store : Bytes) (sound : Sound m store) (node : ℕ) (job : Job) (n : Now) where
+  -- a start that counts and changes nothing else
+  counts-sound : Sound (stepped m) store
+  counts-sound =
+      record {
+        is =
+            ap
+            (λ (k : Manager).
+            record { connections = k .connections; count = k .count; «next_transaction_id» = numberOf m })
+            (sound .is);
+        few = sound .few;
+        ordered = sound .ordered;
+        each = sound .each;
+        number = number-next m (sound .number);
+      }
+
+  -- a connection that was started, in the store with its job's bytes
+  module _ (long : length store ≡ storeSize) (c d : Connection) (slot : Slotted (c .room))
+      (e : startOn m job n store c ≡ Changed.Connection d) where
+    abbrev room : Bytes
+    room = jobRoom job (Changed.Connection d) (roomIn store c)
+
+    size : length room ≡ roomSize
+    size = started-room job c d (numberOf m) n (roomIn store c) e ∙ room-length store long (c .room)
+
+    fixed : Same c d
+    fixed = started-same job c d (numberOf m) n (roomIn store c) e
+
+    sane : Sane (storeWith job store c d) d
+    sane =
+        sane-of (storeWith job store c d) d
+        (runs-of d (startOn m job n store c) e (start-runs job c (numberOf m) n (roomIn store c)))
+        (fit-new m store sound long c room size d fixed slot (started-sound job c d (numberOf m) n (roomIn store c) e))
+
+    others : All (Sane (storeWith job store c d)) (live m)
+    others = all-by (Sane store) (Sane (storeWith job store c d)) (sane-there m store sound long c room size) (live m) (sound .each)
+
+  again-sound : (k : ℕ) (d : Connection) → length store ≡ storeSize → At node (live m) k
+      → startOn m job n store (heldAt m k) ≡ Changed.Connection d
+      → Sound (tableOf (set (live m) k d) (numberOf m)) (storeWith job store (heldAt m k) d)
+  again-sound k d long at e =
+      let c : Connection = heldAt m k in
+      let slot : Slotted (c .room) = slot-at m store sound node k at in
+      sound-table (set (live m) k d) (numberOf m) (storeWith job store c d) (few-set m store sound k d)
+      (ordered-set m store sound k d (fixed long c d slot e))
+      (all-set (Sane (storeWith job store c d)) (live m) k d (sane long c d slot e) (others long c d slot e))
+      (number-next m (sound .number))
+
+  -- a new connection, in a room that was nobody's
+  inserted-sound : (d : Connection) (after : Bytes) → Absent node (live m) → length (live m) < 8 → Same (fresh m node) d
+      → Sane after d → All (Sane after) (live m) → Sound (tableOf (insertIn d (live m)) (numberOf m)) after
+  inserted-sound d after none few s i a =
+      sound-table (insertIn d (live m)) (numberOf m) after (omega (arith, insert-length d (live m)))
+      (ordered-insert d (live m) (subst (λ (k : ℕ). Absent k (live m)) (sym (s .0)) none)
+      (subst (λ (r : ℕ). Nobodys r (live m)) (sym (s .1)) (free-nobodys (live m) few)) (sound .ordered))
+      (all-insert (Sane after) (live m) (placeIn (d .«target_node_id») (live m)) d i a)
+      (number-next m (sound .number))
+
+  enters-sound : (d : Connection) → length store ≡ storeSize → Absent node (live m) → length (live m) < 8
+      → startOn m job n store (fresh m node) ≡ Changed.Connection d
+      → Sound (tableOf (insertIn d (live m)) (numberOf m)) (storeWith job store (fresh m node) d)
+  enters-sound d long none few e =
+      let c : Connection = fresh m node in
+      let slot : Slotted (freeRoom (live m)) = free-slotted (live m) in
+      inserted-sound d (storeWith job store c d) none few (fixed long c d slot e) (sane long c d slot e) (others long c d slot e)
+
+  idles-sound : Absent node (live m) → length (live m) < 8
+      → Sound (tableOf (insertIn (fresh m node) (live m)) (numberOf m)) store
+  idles-sound none few =
+      inserted-sound (fresh m node) store none few (refl, refl)
+      (record {
+        slotted = free-slotted (live m);
+        runs = refl;
+        opened = refl;
+        consistent = new-sound node (freeRoom (live m)) _;
+      })
+      (sound .each)
+
+  pub start-sound : Sound (called m store (starts node job n) .manager) (called m store (starts node job n) .store)
+  unfolding called
+  start-sound =
+      start-by m node job n store (λ (k : Manager) (s : Bytes) (x : Answer) (es : List End). Sound k s)
+      (λ r. sound) (λ r. counts-sound) again-sound enters-sound (λ r long none few. idles-sound none few)

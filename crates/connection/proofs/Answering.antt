@@ -168,7 +168,7 @@ module _ (a : Aim) (got : List Bytes) where
       → (o : Outstanding) → Carries a got c → Replied a got (replyTo o seq cmd payload c (a .room))
   reply-to seq cmd payload c r Outstanding.Nothing i = keeps c (leave a got c r i)
   reply-to seq cmd payload c r (Outstanding.Waits o) i =
-      either (Replied a got) (eqb (seq .«receive_sequence_number») (o .sequence .«send_sequence_number»)) _ _
+      either (Replied a got) (eqb (seq .«receive_sequence_number») (o .send)) _ _
       (either (Replied a got) (eqb (seq .«send_sequence_number») last) _ _
       (keeps (cleared c last) (leave a got (cleared c last) r i))
       (either (Replied a got) (eqb (seq .«send_sequence_number») ((last + 1) % 64)) _ _

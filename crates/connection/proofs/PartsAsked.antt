@@ -81,7 +81,7 @@ sentBy n due c m o =
 module _ (cmd : SdoCommand) (room : Bytes) (unmarked : cmd .header .«is_aborted» ≡ false) where
   -- ---- a reply with the right numbers is accepted, and with bytes yet to send it only clears the command
   accepted : (o : Outgoing) (seq : SequenceLayerHeader) (c : Connection)
-      → seq .«receive_sequence_number» ≡ o .sequence .«send_sequence_number» → seq .«send_sequence_number» ≡ next c
+      → seq .«receive_sequence_number» ≡ o .send → seq .«send_sequence_number» ≡ next c
       → replyTo (Outstanding.Waits o) seq cmd [] c room
       ≡ replyIn (c .state) seq (cmd .header .segmentation) (cleared c (seq .«send_sequence_number»)) 0 room
   unfolding pick

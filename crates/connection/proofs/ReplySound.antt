@@ -186,7 +186,7 @@ to-sound : (c : Connection) (room : Bytes) → Consistent c room
     → Decides payload room (replyTo x seq cmd payload c room)
 to-sound c room i seq cmd payload Outstanding.Nothing = keeps payload i
 to-sound c room i seq cmd payload (Outstanding.Waits o) =
-    either P (eqb (seq .«receive_sequence_number») (o .sequence .«send_sequence_number»)) _ _
+    either P (eqb (seq .«receive_sequence_number») (o .send)) _ _
     (either P (eqb send last) _ _ (keeps payload (cleared-sound c room i last (i .last)))
     (decided P (eqb send ((last + 1) % 64)) _ _ (λ h. taken (cleared-sound c room i send (omega (arith, eqb-true send ((last + 1) % 64) h))))
     (λ h. keeps payload (ended-sound c room i Reason.Sequence))))

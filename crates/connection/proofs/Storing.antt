@@ -98,7 +98,7 @@ module _ (seq : SequenceLayerHeader) (cmd : SdoCommand) (payload room : Bytes) w
   to-reply : (o : Outstanding) (c : SdoClientConnection) → StoresWithin (length payload) room (replyTo o seq cmd payload c room)
   to-reply Outstanding.Nothing c = tt
   to-reply (Outstanding.Waits o) c =
-      either (length payload) room (eqb (seq .«receive_sequence_number») (o .sequence .«send_sequence_number»)) _ _
+      either (length payload) room (eqb (seq .«receive_sequence_number») (o .send)) _ _
       (heard-reply c) tt
 
   pub stores-within : (c : SdoClientConnection) → StoresWithin (length payload) room (replyOf seq cmd payload c room)

@@ -7,6 +7,7 @@ use mathlib.Core.List.{List, [], _∷_, _++_}
 use lib.ListN.{length}
 use Rattle.codec.specs.Bytes.{Bytes}
 use Rattle.connection.specs.Ask.{askOf}
+use Rattle.connection.specs.Commands.{commandOf}
 use Rattle.connection.specs.Delivery.{Sent}
 use Rattle.connection.specs.Parts.{most}
 use Rattle.connection.specs.Payload.{payloadOf}
@@ -52,8 +53,8 @@ roomLeft (replies seq cmd payload) c room = roomAfter (replyOf seq cmd payload c
 abbrev pub sentOf : Bytes → Outgoing → Sent
 sentOf room o =
     record {
-      id = o .command .header .«command_id»;
-      kind = o .command .header .segmentation;
+      id = commandOf o .header .«command_id»;
+      kind = commandOf o .header .segmentation;
       payload = payloadOf room o;
     }
 
@@ -74,7 +75,7 @@ asked (replies seq cmd payload) c room = []
 -- a payload is as long as its command's segment size says, at most 1452 bytes
 abbrev pub Sized : Bytes → Sends → Type 0
 Sized room (Sends.Gives o) =
-    (length (payloadOf room o) ≡ o .command .header .«segment_size») × (o .command .header .«segment_size» ≤ most)
+    (length (payloadOf room o) ≡ commandOf o .header .«segment_size») × (commandOf o .header .«segment_size» ≤ most)
 Sized room Sends.Silent = Unit {0}
 
 abbrev pub AllSized : Bytes → Stepped → Type 0

@@ -8,6 +8,7 @@ use Rattle.laws.specs.Pick.{pick}
 use Rattle.codec.specs.Bytes.{Bytes}
 use Rattle.connection.specs.Ask.{askOf}
 use Rattle.connection.specs.Calls.{asks, replies, called}
+use Rattle.connection.specs.Commands.{commandOf}
 use Rattle.connection.specs.Parts.{most, partLength, laterKind}
 use Rattle.connection.specs.Types.{
   DataSize,
@@ -70,9 +71,9 @@ joinedUp (b ∷ bs) = b ++ joinedUp bs
 abbrev pub partOf : Outgoing → Part
 partOf o =
     record {
-      kind = o .command .header .segmentation;
-      length = o .command .header .«segment_size»;
-      size = o .command .«data_size»;
+      kind = commandOf o .header .segmentation;
+      length = commandOf o .header .«segment_size»;
+      size = commandOf o .«data_size»;
     }
 
 abbrev pub partsIn : Sends → List Part
@@ -85,7 +86,7 @@ partsBy (Stepped.Refused r) = []
 
 -- the reply that acknowledges the command outstanding: its number, and the successor of the number last received
 abbrev pub numberOf : Outstanding → ℕ
-numberOf (Outstanding.Waits o) = o .sequence .«send_sequence_number»
+numberOf (Outstanding.Waits o) = o .send
 numberOf Outstanding.Nothing = 0
 
 abbrev pub acknowledgement : SdoClientConnection → SequenceLayerHeader

@@ -188,7 +188,7 @@ replyHeard seq cmd payload c room =
 abbrev pub replyTo : Outstanding → SequenceLayerHeader → SdoCommand → Bytes → SdoClientConnection → Bytes → Decision
 replyTo Outstanding.Nothing seq cmd payload c room = Decision.Keeps c
 replyTo (Outstanding.Waits o) seq cmd payload c room =
-    pick (eqb (seq .«receive_sequence_number») (o .sequence .«send_sequence_number»))
+    pick (eqb (seq .«receive_sequence_number») (o .send))
     (replyHeard seq cmd payload c room)
     (Decision.Keeps c)
 

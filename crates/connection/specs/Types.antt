@@ -16,13 +16,13 @@ pub use Rattle.connection.specs.declared.types.Deadline.{Deadline}
 pub use Rattle.connection.specs.declared.types.End.{End}
 pub use Rattle.connection.specs.declared.types.EndFound.{EndFound}
 pub use Rattle.connection.specs.declared.types.LoadedTransfer.{LoadedTransfer}
+pub use Rattle.connection.specs.declared.types.Message.{Message}
 pub use Rattle.connection.specs.declared.types.Moment.{Moment}
 pub use Rattle.connection.specs.declared.types.Now.{Now}
 pub use Rattle.connection.specs.declared.types.Outcome.{Outcome}
 pub use Rattle.connection.specs.declared.types.Outgoing.{Outgoing}
 pub use Rattle.connection.specs.declared.types.Outstanding.{Outstanding}
 pub use Rattle.connection.specs.declared.types.Parameter.{Parameter}
-pub use Rattle.connection.specs.declared.types.Payload.{Payload}
 pub use Rattle.connection.specs.declared.types.PendingRead.{PendingRead}
 pub use Rattle.connection.specs.declared.types.Reason.{Reason}
 pub use Rattle.connection.specs.declared.types.SdoClientConnection.{SdoClientConnection}

@@ -1,35 +1,22 @@
-// Ask: what a connection has to send. It looks at the record alone, and answers the new record and the command as header and place.
-ghost use mathlib.Core.Bool.{true, false};
+// Ask: what a connection has to send. It looks at the record alone, and answers the new record and the command with its place.
 ghost use mathlib.Core.Path.{_≡_};
 ghost use Prim.Native.Nat.{_+_, _%_};
 ghost use Rattle.connection.specs.Ask.{quiet as quietStep, given as givenStep, finish as finishOf, askRead, askFirst, askLater, askIn, askOf};
-ghost use Rattle.connection.specs.Commands.{
-  headerWith,
-  commandWith,
-  naming as namingOf,
-  openingCommand,
-  readCommand,
-  nextCommand,
-  firstCommand,
-  laterCommand,
-};
+ghost use Rattle.connection.specs.Commands.{outgoing};
 ghost use Rattle.connection.specs.Record.{ended as endedWith};
 use crate::deadline::deadline_of;
 use crate::deadline::retries_of;
-use crate::parts::first_kind;
-use crate::parts::first_size;
-use crate::parts::later_kind;
+use crate::outgoing::numbered;
 use crate::parts::part_length;
 use crate::parts::rest_of;
 use crate::parts::total_of;
 use crate::types::Deadline;
 use crate::types::LoadedTransfer;
+use crate::types::Message;
 use crate::types::Moment;
 use crate::types::Now;
 use crate::types::Outcome;
-use crate::types::Outgoing;
 use crate::types::Outstanding;
-use crate::types::Payload;
 use crate::types::PendingRead;
 use crate::types::Reason;
 use crate::types::SdoClientConnection;
@@ -38,17 +25,8 @@ use crate::types::SdoJob;
 use crate::types::Sends;
 use crate::types::Step;
 use crate::types::Stepped;
-use crate::types::Transfer;
 use crate::types::Waiting;
-use codec::command::CommandId;
-use codec::command::CommandLayerHeader;
-use codec::command::DataSize;
-use codec::command::SdoCommand;
-use codec::command::Segmentation;
 use codec::refusal::Refusal;
-use codec::sequence::ReceiveConnState;
-use codec::sequence::SendConnState;
-use codec::sequence::SequenceLayerHeader;
 
 // Nothing is given.
 pub(crate) fn quiet(c: SdoClientConnection) -> Stepped
@@ -88,187 +66,15 @@ pub(crate) fn next_number(n: u8) -> u8
     ((n as u16 + 1) % 64) as u8
 }
 
-pub(crate) fn header_with(
-    c: SdoClientConnection,
-    receive: ReceiveConnState,
-    send: SendConnState,
-) -> SequenceLayerHeader
-    ensures { λ r. ⌜ r ≡ headerWith c receive send ⌝ }
-{
-    SequenceLayerHeader {
-        receive_sequence_number: c.last_received_sequence_number,
-        receive_con: receive,
-        send_sequence_number: c.send_sequence_number,
-        send_con: send,
-    }
-}
-
-pub(crate) fn command_with(
-    c: SdoClientConnection,
-    aborted: bool,
-    kind: Segmentation,
-    id: CommandId,
-    segment: u16,
-    size: DataSize,
-) -> SdoCommand
-    ensures { λ r. ⌜ r ≡ commandWith c aborted kind id segment size ⌝ }
-{
-    SdoCommand {
-        header: CommandLayerHeader {
-            transaction_id: c.transaction_id,
-            is_response: false,
-            is_aborted: aborted,
-            segmentation: kind,
-            command_id: id,
-            segment_size: segment,
-        },
-        data_size: size,
-    }
-}
-
-// A transfer with no data.
-fn naming(index: u16, sub_index: u8) -> Transfer
-    ensures { λ r. ⌜ r ≡ namingOf index «sub_index» ⌝ }
-{
-    Transfer {
-        index,
-        sub_index,
-        start: 0,
-        len: 0,
-    }
-}
-
-fn opening_command(c: SdoClientConnection) -> Outgoing
-    ensures { λ r. ⌜ r ≡ openingCommand c ⌝ }
-{
-    Outgoing {
-        sequence: header_with(
-            c,
-            ReceiveConnState::NoConnection,
-            SendConnState::Initialization,
-        ),
-        command: command_with(
-            c,
-            false,
-            Segmentation::Expedited,
-            CommandId::Nil,
-            0,
-            DataSize::Absent,
-        ),
-        payload: Payload::Part {
-            transfer: naming(0, 0),
-            from: 0,
-        },
-    }
-}
-
-fn read_command(c: SdoClientConnection, index: u16, sub_index: u8) -> Outgoing
-    ensures { λ r. ⌜ r ≡ readCommand c index «sub_index» ⌝ }
-{
-    Outgoing {
-        sequence: header_with(
-            c,
-            ReceiveConnState::ConnectionValid,
-            SendConnState::ConnectionValidAckRequest,
-        ),
-        command: command_with(
-            c,
-            false,
-            Segmentation::Expedited,
-            CommandId::ReadByIndex,
-            4,
-            DataSize::Absent,
-        ),
-        payload: Payload::Part {
-            transfer: naming(index, sub_index),
-            from: 0,
-        },
-    }
-}
-
-fn next_command(c: SdoClientConnection) -> Outgoing
-    ensures { λ r. ⌜ r ≡ nextCommand c ⌝ }
-{
-    Outgoing {
-        sequence: header_with(
-            c,
-            ReceiveConnState::ConnectionValid,
-            SendConnState::ConnectionValidAckRequest,
-        ),
-        command: command_with(
-            c,
-            false,
-            Segmentation::Segment,
-            CommandId::ReadByIndex,
-            0,
-            DataSize::Absent,
-        ),
-        payload: Payload::Part {
-            transfer: naming(0, 0),
-            from: 0,
-        },
-    }
-}
-
-fn first_command(c: SdoClientConnection, t: Transfer) -> Outgoing
-    ensures { λ r. ⌜ r ≡ firstCommand c t ⌝ }
-{
-    let all = total_of(t);
-    Outgoing {
-        sequence: header_with(
-            c,
-            ReceiveConnState::ConnectionValid,
-            SendConnState::ConnectionValidAckRequest,
-        ),
-        command: command_with(
-            c,
-            false,
-            first_kind(all),
-            CommandId::WriteByIndex,
-            part_length(all),
-            first_size(t),
-        ),
-        payload: Payload::Part {
-            transfer: t,
-            from: 0,
-        },
-    }
-}
-
-fn later_command(c: SdoClientConnection, t: Transfer, sent: u64) -> Outgoing
-    ensures { λ r. ⌜ r ≡ laterCommand c t sent ⌝ }
-{
-    let rest = rest_of(total_of(t), sent);
-    Outgoing {
-        sequence: header_with(
-            c,
-            ReceiveConnState::ConnectionValid,
-            SendConnState::ConnectionValidAckRequest,
-        ),
-        command: command_with(
-            c,
-            false,
-            later_kind(rest),
-            CommandId::WriteByIndex,
-            part_length(rest),
-            DataSize::Absent,
-        ),
-        payload: Payload::Part {
-            transfer: t,
-            from: sent,
-        },
-    }
-}
-
 // A command is given: deadline and retries are set, and the send number steps. 8 where the deadline does not fit.
 fn given(
     c: SdoClientConnection,
     n: Now,
     s: SdoClientConnectionState,
     sent: u64,
-    o: Outgoing,
+    message: Message,
 ) -> Stepped
-    ensures { λ r. ⌜ r ≡ givenStep c n s sent o ⌝ }
+    ensures { λ r. ⌜ r ≡ givenStep c n s sent (outgoing c message) ⌝ }
 {
     let timeout = n.timeout;
     let retries = n.retries;
@@ -276,6 +82,7 @@ fn given(
         return Stepped::Refused(Refusal::DeadlineRange);
     };
     let job = c.job;
+    let o = numbered(c, message);
     Stepped::Went(Step {
         connection: SdoClientConnection {
             target_node_id: c.target_node_id,
@@ -323,7 +130,7 @@ fn ask_read(read: PendingRead, c: SdoClientConnection, n: Now) -> Stepped
             n,
             SdoClientConnectionState::UploadInit,
             job.offset,
-            read_command(c, index, sub_index),
+            Message::Read { index, sub_index },
         ),
         PendingRead::NoRead => {
             let cursor = job.cursor;
@@ -343,7 +150,7 @@ fn ask_first(loaded: LoadedTransfer, c: SdoClientConnection, n: Now) -> Stepped
                 n,
                 SdoClientConnectionState::DownloadInProgress,
                 sent,
-                first_command(c, t),
+                Message::First(t),
             );
         }
         LoadedTransfer::Unloaded => {
@@ -367,7 +174,10 @@ fn ask_later(loaded: LoadedTransfer, c: SdoClientConnection, n: Now) -> Stepped
                 n,
                 SdoClientConnectionState::DownloadInProgress,
                 offset + more,
-                later_command(c, t, offset),
+                Message::Later {
+                    transfer: t,
+                    from: offset,
+                },
             );
         }
         LoadedTransfer::Unloaded => return quiet(c),
@@ -386,7 +196,7 @@ fn ask_in(s: SdoClientConnectionState, c: SdoClientConnection, n: Now) -> Steppe
             n,
             SdoClientConnectionState::Opening,
             job.offset,
-            opening_command(c),
+            Message::Opening,
         ),
         SdoClientConnectionState::Established => return ask_first(loaded, c, n),
         SdoClientConnectionState::UploadInit => return quiet(c),
@@ -395,7 +205,7 @@ fn ask_in(s: SdoClientConnectionState, c: SdoClientConnection, n: Now) -> Steppe
             n,
             SdoClientConnectionState::UploadInProgress,
             job.offset,
-            next_command(c),
+            Message::Next,
         ),
         SdoClientConnectionState::DownloadInProgress => return ask_later(loaded, c, n),
         SdoClientConnectionState::Closed => return quiet(c),

@@ -1,8 +1,9 @@
 // One node's connection (document 01, "The connection"): the state machine that decides what is sent and when a job is done. A
-// connection is plain data by value. Asking and ticking decide on the record alone, and answer which command goes out as its header
-// and place; the bytes of a job lie in a room that the caller lends, and are touched by start, reply and write_payload only.
+// connection is plain data by value. Asking and ticking decide on the record alone, and answer which command goes out, with its
+// place; the bytes of a job lie in a room that the caller lends, and are touched by start, reply and write_payload only.
 pub mod ask;
 pub mod deadline;
+pub mod outgoing;
 pub mod parts;
 pub mod payload;
 pub mod reply;

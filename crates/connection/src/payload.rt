@@ -1,14 +1,18 @@
 // The payload of a command that goes out: written from the room to the start of the output, and nothing else. First sendings and repeats
 // use it alike.
 ghost use mathlib.Core.Path.{_≡_};
-ghost use mathlib.Core.List.{[], _∷_, _++_};
+ghost use mathlib.Core.List.{[]};
 ghost use Prim.Native.Nat.{_-_};
 ghost use lib.ListN.{take, drop};
-ghost use Rattle.codec.specs.Bytes.{le16, le32};
+ghost use Rattle.codec.specs.Bytes.{le32};
+ghost use Rattle.codec.specs.Dcf.{sentAs};
 ghost use Rattle.codec.specs.Writing.{written, bufferAfter};
-ghost use Rattle.connection.specs.Payload.{payloadFrom, payloadOf};
+ghost use Rattle.connection.specs.Payload.{bytesFrom, payloadOf};
+use crate::parts::part_length;
+use crate::parts::rest_of;
+use crate::parts::total_of;
+use crate::types::Message;
 use crate::types::Outgoing;
-use crate::types::Payload;
 use crate::types::Transfer;
 use codec::octets::put;
 use codec::refusal::Refusal;
@@ -28,16 +32,11 @@ pub(crate) fn clip(b: &[u8], start: usize, n: usize) -> &[u8]
     &b[start..end]
 }
 
-// The four bytes ahead of a transfer's data.
-fn head_octets(t: Transfer) -> [u8; 4]
-    ensures { λ r. ⌜ r ≡ le16 (t .index) ++ (t .«sub_index» ∷ 0 ∷ []) ⌝ }
+// The four bytes ahead of a transfer's data, and all of a read's.
+fn head_octets(index: u16, sub_index: u8) -> [u8; 4]
+    ensures { λ r. ⌜ r ≡ sentAs index «sub_index» [] ⌝ }
 {
-    [
-        (t.index % 256) as u8,
-        (t.index / 256 % 256) as u8,
-        t.sub_index,
-        0,
-    ]
+    [(index % 256) as u8, (index / 256 % 256) as u8, sub_index, 0]
 }
 
 fn code_octets(code: u32) -> [u8; 4]
@@ -60,10 +59,10 @@ fn less(a: usize, b: usize) -> usize
 
 // The n bytes of a transfer from a place on, written to the start of the output.
 fn write_part(t: Transfer, from: usize, n: usize, room: &[u8], output: &mut [u8]) -> Written
-    ensures { λ r. ⌜ r ≡ written (payloadFrom (now (room .entry)) (Payload.Part t from) n) (now (output .entry)) ⌝ }
-    ensures { λ _. ⌜ now (output .exit) ≡ bufferAfter (payloadFrom (now (room .entry)) (Payload.Part t from) n) (now (output .entry)) ⌝ }
+    ensures { λ r. ⌜ r ≡ written (bytesFrom (now (room .entry)) t from n) (now (output .entry)) ⌝ }
+    ensures { λ _. ⌜ now (output .exit) ≡ bufferAfter (bytesFrom (now (room .entry)) t from n) (now (output .entry)) ⌝ }
 {
-    let octets = head_octets(t);
+    let octets = head_octets(t.index, t.sub_index);
     let head = clip(&octets, from, n);
     let own = clip(room, t.start, t.len as usize);
     let rest = clip(own, less(from, 4), less(n, less(4, from)));
@@ -84,22 +83,25 @@ pub fn write_payload(o: Outgoing, room: &[u8], output: &mut [u8]) -> Written
     ensures { λ r. ⌜ r ≡ written (payloadOf (now (room .entry)) o) (now (output .entry)) ⌝ }
     ensures { λ _. ⌜ now (output .exit) ≡ bufferAfter (payloadOf (now (room .entry)) o) (now (output .entry)) ⌝ }
 {
-    let command = o.command;
-    let header = command.header;
-    let payload = o.payload;
-    match payload {
-        Payload::Part { transfer, from } => {
-            write_part(
-                transfer,
-                from as usize,
-                header.segment_size as usize,
-                room,
-                output,
-            )
+    let message = o.message;
+    match message {
+        Message::Opening => return Written::Bytes(0),
+        Message::Read { index, sub_index } => {
+            let octets = head_octets(index, sub_index);
+            return put(output, 0, &octets);
         }
-        Payload::AbortCode(code) => {
+        Message::Next => return Written::Bytes(0),
+        Message::First(t) => {
+            let n = part_length(total_of(t));
+            return write_part(t, 0, n as usize, room, output);
+        }
+        Message::Later { transfer, from } => {
+            let n = part_length(rest_of(total_of(transfer), from));
+            return write_part(transfer, from as usize, n as usize, room, output);
+        }
+        Message::Abort(code) => {
             let octets = code_octets(code);
-            put(output, 0, &octets)
+            return put(output, 0, &octets);
         }
     }
 }

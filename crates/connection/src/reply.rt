@@ -389,8 +389,7 @@ fn reply_to(
     match o {
         Outstanding::Nothing => return Decision::Keeps(c),
         Outstanding::Waits(k) => {
-            let sent = k.sequence;
-            if seq.receive_sequence_number == sent.send_sequence_number {
+            if seq.receive_sequence_number == k.send {
                 return reply_heard(seq, cmd, payload, c, room);
             }
             return Decision::Keeps(c);

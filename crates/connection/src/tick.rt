@@ -1,55 +1,25 @@
 // Tick: what a deadline that has passed brings about. It looks at the record alone.
-ghost use mathlib.Core.Bool.{true};
 ghost use mathlib.Core.Path.{_≡_};
 ghost use Prim.Native.Nat.{_<_};
-ghost use Rattle.connection.specs.Commands.{abortCommand};
 ghost use Rattle.connection.specs.Tick.{repeated as repeatedOf, retriedAt, timedOut, tickAt, tickOf};
-use crate::ask::command_with;
 use crate::ask::ended;
-use crate::ask::header_with;
 use crate::ask::quiet;
 use crate::deadline::deadline_of;
+use crate::outgoing::numbered;
 use crate::types::Deadline;
+use crate::types::Message;
 use crate::types::Moment;
 use crate::types::Now;
-use crate::types::Outgoing;
 use crate::types::Outstanding;
-use crate::types::Payload;
 use crate::types::Reason;
 use crate::types::SdoClientConnection;
 use crate::types::Sends;
 use crate::types::Step;
 use crate::types::Stepped;
 use crate::types::Waiting;
-use codec::command::CommandId;
-use codec::command::DataSize;
-use codec::command::Segmentation;
 use codec::refusal::Refusal;
-use codec::sequence::ReceiveConnState;
-use codec::sequence::SendConnState;
 
 const TIMED_OUT: u32 = 0x05040000;
-
-fn abort_command(c: SdoClientConnection) -> Outgoing
-    ensures { λ r. ⌜ r ≡ abortCommand c ⌝ }
-{
-    Outgoing {
-        sequence: header_with(
-            c,
-            ReceiveConnState::ConnectionValid,
-            SendConnState::NoConnection,
-        ),
-        command: command_with(
-            c,
-            true,
-            Segmentation::Expedited,
-            CommandId::Nil,
-            4,
-            DataSize::Absent,
-        ),
-        payload: Payload::AbortCode(TIMED_OUT),
-    }
-}
 
 // The outstanding command again, or nothing if none was sent yet.
 fn repeated(o: Outstanding) -> Sends
@@ -66,7 +36,7 @@ fn timed_out(c: SdoClientConnection) -> Stepped
 {
     Stepped::Went(Step {
         connection: ended(c, Reason::Timeout),
-        sends: Sends::Gives(abort_command(c)),
+        sends: Sends::Gives(numbered(c, Message::Abort(TIMED_OUT))),
     })
 }
 

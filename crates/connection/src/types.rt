@@ -1,11 +1,9 @@
 // The connection's record and the answers of its calls. The names are those of the repository's client_connection.rs where it has them.
 ghost use mathlib.Core.Path.{_≡_};
 ghost use Rattle.connection.specs.Record.{newConnection, endOf};
-use codec::command::SdoCommand;
 use codec::dcf::DcfCursor;
 use codec::refusal::Refusal;
 use codec::request::AbortCode;
-use codec::sequence::SequenceLayerHeader;
 
 pub enum SdoClientConnectionState {
     Idle,
@@ -60,20 +58,25 @@ pub enum LoadedTransfer {
     Unloaded,
 }
 
-// Where a command's payload comes from: the transfer's bytes from `from` on, as many as the segment size says, or an abort code.
-pub enum Payload {
-    Part { transfer: Transfer, from: u64 },
-    AbortCode(u32),
+// Which command goes out, with its place: a read's object, a part's transfer and the bytes of it that went before, an abort's code.
+pub enum Message {
+    Opening,
+    Read { index: u16, sub_index: u8 },
+    Next,
+    First(Transfer),
+    Later { transfer: Transfer, from: u64 },
+    Abort(u32),
 }
 
-// A command that goes out: its headers, and its payload's place.
+// A command that goes out: the numbers of its headers, and which command it is.
 pub struct Outgoing {
-    pub sequence: SequenceLayerHeader,
-    pub command: SdoCommand,
-    pub payload: Payload,
+    pub receive: u8,
+    pub send: u8,
+    pub transaction: u8,
+    pub message: Message,
 }
 
-// The command outstanding, kept for repeats as header and place.
+// The command outstanding, kept for repeats.
 pub enum Outstanding {
     Waits(Outgoing),
     Nothing,

@@ -40,8 +40,8 @@ fn hex(b: &[u8]) {
 // The bytes of a command that goes out: sequence header, command.
 fn frame(o: Outgoing, room: &[u8]) {
     let mut header = [0u8; 4];
-    let sequence = o.sequence;
-    let command = o.command;
+    let sequence = o.sequence();
+    let command = o.command();
     sequence.serialize(&mut header);
     hex(&header);
     let mut payload = [0u8; 1452];

@@ -9,6 +9,7 @@ use lib.ListN.{length, take, drop, getD, set}
 use Rattle.laws.specs.Pick.{pick}
 use Rattle.codec.specs.Bytes.{Bytes, placed}
 use Rattle.codec.specs.Writing.{bufferAfter}
+use Rattle.connection.specs.Commands.{sequenceOf, commandOf}
 use Rattle.connection.specs.Payload.{payloadOf}
 use Rattle.connection.specs.Record.{newConnection}
 use Rattle.connection.specs.Reply.{nextTransaction, replyOf, replied, roomAfter}
@@ -65,7 +66,7 @@ withRoom store c room = placed store (roomStart c) room
 
 abbrev pub sentTo : SdoClientConnection → Outgoing → Answer
 sentTo c o =
-    Answer.Sent (record { node = c .«target_node_id»; sequence = o .sequence; command = o .command })
+    Answer.Sent (record { node = c .«target_node_id»; sequence = sequenceOf o; command = commandOf o })
 
 abbrev pub walkedTo : SdoClientManager → Walking → Done
 walkedTo m (refused r) = refusing m r

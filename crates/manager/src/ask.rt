@@ -90,12 +90,10 @@ fn walked_manager(m: SdoClientManager, w: Walk) -> SdoClientManager
 fn sent_to(c: SdoClientConnection, o: Outgoing) -> Answer
     ensures { λ r. ⌜ r ≡ sentTo c o ⌝ }
 {
-    let sequence = o.sequence;
-    let command = o.command;
     Answer::Sent(SentTo {
         node: c.target_node_id,
-        sequence,
-        command,
+        sequence: o.sequence(),
+        command: o.command(),
     })
 }
 

@@ -183,7 +183,7 @@ to-fixed : (c : Connection) (seq : SequenceLayerHeader) (cmd : SdoCommand) (payl
     → DecisionFixed c (replyTo x seq cmd payload c room)
 to-fixed c seq cmd payload room Outstanding.Nothing = ((refl, refl), refl)
 to-fixed c seq cmd payload room (Outstanding.Waits o) =
-    either P (eqb (seq .«receive_sequence_number») (o .sequence .«send_sequence_number»)) _ (Decision.Keeps c)
+    either P (eqb (seq .«receive_sequence_number») (o .send)) _ (Decision.Keeps c)
     (either P (eqb send last) (Decision.Keeps (cleared c last)) _ ((refl, refl), refl)
     (either P (eqb send ((last + 1) % 64)) _ (Decision.Keeps (ended c Reason.Sequence))
     (either P (cmd .header .«is_aborted») (Decision.Keeps (ended (cleared c send) (Reason.PeerAborted _))) _ ((refl, refl), refl)

@@ -112,7 +112,7 @@ module _ (room : Bytes) (size : length room ≡ roomSize) where
     to-reply : (x : Outstanding) → NoRoomIf (Cause x) (replyTo x seq cmd payload c room)
     to-reply Outstanding.Nothing = keeps c (λ z. z .0)
     to-reply (Outstanding.Waits o) =
-        decided P (eqb (seq .«receive_sequence_number») (o .sequence .«send_sequence_number»)) _ _
+        decided P (eqb (seq .«receive_sequence_number») (o .send)) _ _
         (λ h. decided P (eqb send (c .«last_received_sequence_number»)) _ _
         (λ k. keeps _ (λ z. again (eqb-true _ _ k) (z .0 .1)))
         (λ k. decided P (eqb send ((c .«last_received_sequence_number» + 1) % 64)) _ _

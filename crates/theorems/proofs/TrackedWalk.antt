@@ -12,6 +12,7 @@ use Rattle.codec.specs.Bytes.{Bytes}
 use Rattle.codec.specs.Writing.{bufferAfter}
 use Rattle.connection.specs.Ask.{askOf}
 use Rattle.connection.specs.Calls.{Sized, logged, sentOf}
+use Rattle.connection.specs.Commands.{commandOf}
 use Rattle.connection.specs.Delivery.{Sent}
 use Rattle.connection.specs.Payload.{payloadOf}
 use Rattle.connection.specs.Tick.{tickOf}
@@ -71,15 +72,15 @@ WalkGood a node at got t store output (stopped k o l) =
 
 -- the payload at the start of the output is the one that was put there
 read-out : (output room : Bytes) (o : Outgoing) → 1452 ≤ length output → Sized room (Sends.Gives o)
-    → commandIn (o .command) (bufferAfter (payloadOf room o) output) ≡ sentOf room o
+    → commandIn (commandOf o) (bufferAfter (payloadOf room o) output) ≡ sentOf room o
 unfolding bufferAfter pick
 read-out output room o long z =
     let fits : length (payloadOf room o) ≤ length output = omega (arith, z .0, z .1) in
     ap
     (λ (p : Bytes).
-    record { id = o .command .header .«command_id»; kind = o .command .header .segmentation; payload = p })
+    record { id = commandOf o .header .«command_id»; kind = commandOf o .header .segmentation; payload = p })
     (rw (le-leb (length (payloadOf room o)) (length output) fits)
-    (take-at (payloadOf room o) (drop (length (payloadOf room o)) output) (o .command .header .«segment_size») (z .0)))
+    (take-at (payloadOf room o) (drop (length (payloadOf room o)) output) (commandOf o .header .«segment_size») (z .0)))
 
 module _ (a : Aim) (node at : ℕ) (got : List Bytes) (t : Turn) (n : Now) (store output : Bytes) (same : roomAt store at ≡ a .room)
     (long : 1452 ≤ length output) where

@@ -164,7 +164,7 @@ Past SdoClientConnectionState.Closed kind uploaded n = ⊥
 abbrev pub Accepted : Outstanding → SdoClientConnection → SequenceLayerHeader → SdoCommand → Type 0
 Accepted Outstanding.Nothing c seq cmd = ⊥
 Accepted (Outstanding.Waits o) c seq cmd =
-    (seq .«receive_sequence_number» ≡ o .sequence .«send_sequence_number»)
+    (seq .«receive_sequence_number» ≡ o .send)
     × (seq .«send_sequence_number» ≡ (c .«last_received_sequence_number» + 1) % 64)
     × (cmd .header .«is_aborted» ≡ false)
 

@@ -1,6 +1,5 @@
 -- `connection::ask::ask_in` meets its contract: each arm is one case of its definition. Assumes nothing.
 use mathlib.Core.Path.{refl}
-use mathlib.Core.Path.{_∙_}
 use Rattle.connection.specs.Ask.{askIn}
 use Rattle.laws.proofs.Answers.{told}
 use borrow.Author.Needs.{needs}
@@ -14,8 +13,8 @@ returns c =
 
 returns-2 : tie.Need-returns-2
 returns-2 c =
-    let a = c .before .before .before .before .before .args in
-    told (λ x. askIn x (a .c) (a .n)) refl (c .before .before .enum-told2 .given .1) (c .given .ensures ∙ rw (c .before .opening-command .ensures))
+    let a = c .before .before .before .before .args in
+    told (λ x. askIn x (a .c) (a .n)) refl (c .before .enum-told2 .given .1) (c .given .ensures)
 
 returns-3 : tie.Need-returns-3
 returns-3 c =
@@ -29,8 +28,8 @@ returns-4 c =
 
 returns-5 : tie.Need-returns-5
 returns-5 c =
-    let a = c .before .before .before .before .before .args in
-    told (λ x. askIn x (a .c) (a .n)) refl (c .before .before .enum-told5 .given .1) (c .given2 .ensures ∙ rw (c .before .next-command .ensures))
+    let a = c .before .before .before .before .args in
+    told (λ x. askIn x (a .c) (a .n)) refl (c .before .enum-told5 .given .1) (c .given2 .ensures)
 
 returns-6 : tie.Need-returns-6
 returns-6 c =
@@ -51,7 +50,6 @@ ask-in-spec =
     returns
     (λ c. search needs)
     (λ c κs. search needs)
-    (λ c κs. search needs)
     returns-2
     (λ c. search needs)
     (λ c κs. search needs)
@@ -60,7 +58,6 @@ ask-in-spec =
     (λ c κs. search needs)
     returns-4
     (λ c. search needs)
-    (λ c κs. search needs)
     (λ c κs. search needs)
     returns-5
     (λ c. search needs)

@@ -9,8 +9,9 @@ use Rattle.connection.proofs.ask.ask_later.Tie as tie
 
 returns : tie.Need-returns
 returns c =
-    let a = c .before .before .before .before .before .before .before .before .before .args in
-    told (λ x. askLater x (a .c) (a .n)) refl (c .before .before .before .before .before .before .before .loaded .given .1) (c .given .ensures ∙ rw (c .before .later-command .ensures, c .before .before .part-length .ensures .0, c .before .before .before .rest-of .ensures, c .before .before .before .before .total-of .ensures .0))
+    let a = c .before .before .before .before .before .before .before .before .args in
+    told (λ x. askLater x (a .c) (a .n)) refl (c .before .before .before .before .before .before .loaded .given .1)
+    (c .given .ensures ∙ rw (c .before .part-length .ensures .0, c .before .before .rest-of .ensures, c .before .before .before .total-of .ensures .0))
 
 returns-2 : tie.Need-returns-2
 returns-2 c =
@@ -27,7 +28,6 @@ ask-later-spec =
     (λ c κs. search needs)
     (λ c. search needs)
     (λ c. search needs)
-    (λ c κs. search needs)
     (λ c κs. search needs)
     returns
     (λ c. search needs)

@@ -9,8 +9,8 @@ use Rattle.connection.proofs.ask.ask_read.Tie as tie
 
 returns : tie.Need-returns
 returns c =
-    let a = c .before .before .before .before .before .before .args in
-    told (λ x. askRead x (a .c) (a .n)) refl (c .before .before .before .read .given .1) (c .given .ensures ∙ rw (c .before .read-command .ensures))
+    let a = c .before .before .before .before .before .args in
+    told (λ x. askRead x (a .c) (a .n)) refl (c .before .before .read .given .1) (c .given .ensures)
 
 returns-2 : tie.Need-returns-2
 returns-2 c =
@@ -22,7 +22,6 @@ ask-read-spec =
     tie.close
     (tie.spec
     (λ c. search needs)
-    (λ c κs. search needs)
     (λ c κs. search needs)
     returns
     (λ c. search needs)

@@ -14,13 +14,13 @@ returns c =
 
 returns-2 : tie.Need-returns-2
 returns-2 c =
-    let a = c .before .before .before .before .before .before .before .before .before .before .args in
-    told (λ x. replyTo x (a .seq) (a .cmd) (a .payload .now) (a .c) (a .room .now)) refl (c .before .before .before .before .before .before .o .given .1) (is _ _ _ _ (c .before .if1 .taken) (c .reply-heard .ensures))
+    let a = c .before .before .before .before .before .before .before .before .before .args in
+    told (λ x. replyTo x (a .seq) (a .cmd) (a .payload .now) (a .c) (a .room .now)) refl (c .before .before .before .before .before .o .given .1) (is _ _ _ _ (c .before .if1 .taken) (c .reply-heard .ensures))
 
 returns-3 : tie.Need-returns-3
 returns-3 c =
-    let a = c .before .before .before .before .before .before .before .before .before .args in
-    told (λ x. replyTo x (a .seq) (a .cmd) (a .payload .now) (a .c) (a .room .now)) refl (c .before .before .before .before .before .o .given .1) (is-not _ _ _ _ (c .if1 .left) refl)
+    let a = c .before .before .before .before .before .before .before .before .args in
+    told (λ x. replyTo x (a .seq) (a .cmd) (a .payload .now) (a .c) (a .room .now)) refl (c .before .before .before .before .o .given .1) (is-not _ _ _ _ (c .if1 .left) refl)
 
 pub reply-to-spec : {M : Type 1} → statement M
 reply-to-spec =

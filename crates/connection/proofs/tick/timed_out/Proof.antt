@@ -9,4 +9,4 @@ timed-out-spec =
     (tie.spec
     (λ c κs. search needs)
     (λ c κs. search needs)
-    (λ c. rw (c .before .ended .ensures, c .abort-command .ensures)))
+    (λ c. rw (c .before .ended .ensures, c .numbered .ensures)))

@@ -1,23 +1,16 @@
 -- `connection::ask::given` meets its contract: a deadline that fits, and one that does not. Assumes nothing.
 use mathlib.Core.Path.{refl}
-use Rattle.connection.specs.Ask.{given, givenAt}
-use Rattle.connection.specs.Commands.{outgoing}
-use Rattle.laws.proofs.Answers.{told}
+use Rattle.connection.proofs.AskCases.{given-by}
 use borrow.Author.Needs.{needs}
 use Rattle.connection.proofs.ask.given.Statement.{statement}
 use Rattle.connection.proofs.ask.given.Tie as tie
 
 returns : tie.Need-returns
-unfolding given
-returns c =
-    let a = c .before .before .before .args in
-    told (λ m. givenAt m (a .c) (a .n) (a .s) (a .sent) (outgoing (a .c) (a .message))) (c .before .before .deadline-of .ensures) (c .enum-told .given .1) refl
+returns c = given-by _ _ _ _ _ (c .before .before .deadline-of .ensures) (c .enum-told .given .1) refl
 
 returns-2 : tie.Need-returns-2
-unfolding given
 returns-2 c =
-    let a = c .before .before .before .before .before .before .before .before .before .args in
-    told (λ m. givenAt m (a .c) (a .n) (a .s) (a .sent) (outgoing (a .c) (a .message))) (c .before .before .before .before .before .before .before .before .deadline-of .ensures) (c .before .before .before .before .before .before .deadline .given .1)
+    given-by _ _ _ _ _ (c .before .before .before .before .before .before .before .before .deadline-of .ensures) (c .before .before .before .before .before .before .deadline .given .1)
     (rw (c .before .before .before .numbered .ensures, c .before .before .next-number .ensures, c .retries-of .ensures))
 
 pub given-spec : {M : Type 1} → statement M
@@ -28,7 +21,7 @@ given-spec =
     (λ c. search needs)
     (λ c. search needs)
     returns
-    (λ c κs. search needs)
-    (λ c κs. search needs)
-    (λ c κs. search needs)
+    (λ c. search needs)
+    (λ c. search needs)
+    (λ c. search needs)
     returns-2)

@@ -1,7 +1,6 @@
 -- A payload is written by which command it goes with: none, a few octets, or a part of a transfer. A part is written in two: what falls
 -- on the four bytes ahead, and what falls on the data. Assumes nothing.
 use Prim.Native.Nat.{ℕ, _+_, _-_, _<_, _≤_}
-use native.Mathlib.Nat.{zero-add}
 use native.Mathlib.Omega.{arith}
 use mathlib.Core.Path.{_≡_, refl, sym, ap, _∙_}
 use mathlib.Core.List.{[], _++_}
@@ -13,7 +12,6 @@ use Rattle.codec.specs.Writing.{written, bufferAfter, putAnswer, putBuffer}
 use Rattle.codec.proofs.Writing.{put-fits, put-front, placed-more, write-done, write-placed, write-refused}
 use Rattle.codec.specs.declared.refusal.Refusal.{Refusal}
 use Rattle.codec.specs.declared.sequence.Written.{Written}
-use Rattle.connection.specs.Parts.{wire}
 use Rattle.connection.specs.Payload.{bytesFrom, payloadFrom}
 use Rattle.connection.specs.Types.{Message, Transfer}
 
@@ -50,14 +48,12 @@ module _ (t : Transfer) (room : Bytes) (from n : ℕ) (octets head own rest : By
   length-in-two = ap length in-two ∙ length-append head rest
 
   pub part-refused : (output : Bytes) → length output < length head + length rest
-      → (Written.Refused Refusal.BufferTooShort ≡ written (bytesFrom room t from n) output)
-      × (output ≡ bufferAfter (bytesFrom room t from n) output)
+      → Writes (bytesFrom room t from n) output (Written.Refused Refusal.BufferTooShort) output
   part-refused output h = let l = length-in-two in write-refused _ _ (omega arith)
 
   pub part-written : (output first after : Bytes) → length head + length rest ≤ length output → length first ≡ length output
       → first ≡ putBuffer output 0 head → after ≡ putBuffer first (length head) rest
-      → (Written.Bytes (length head + length rest) ≡ written (bytesFrom room t from n) output)
-      × (after ≡ bufferAfter (bytesFrom room t from n) output)
+      → Writes (bytesFrom room t from n) output (Written.Bytes (length head + length rest)) after
   part-written output first after h same ef ea =
       let l = length-in-two in
       let f : first ≡ _ = ef ∙ put-fits output head 0 (omega arith) in

@@ -5,9 +5,9 @@
 test:
 	bash .ci/run
 
-# The static library for C and Rust: target/staticlib/libcodec.a, with include/ostelumiv.h.
+# The static library for C and Rust: target/staticlib/libostelumiv.a, with include/ostelumiv.h.
 lib:
-	@rt staticlib codec 1>&2
+	@rt staticlib ostelumiv 1>&2
 
 # Frames as hex on standard input, one a line, shown in words.
 display: lib

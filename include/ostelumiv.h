@@ -1,6 +1,6 @@
 /* Ostelumiv: the proved codec of an Ethernet POWERLINK SDO client, for C.
  *
- * Link with the static library that `make lib` writes, target/staticlib/libcodec.a.
+ * Link with the static library that `make lib` writes, target/staticlib/libostelumiv.a.
  *
  * Every function returns for every input: any numbers, any bytes, any length, zero included. Where a length is 0 the pointer is not
  * followed. Nothing is allocated, nothing is kept between calls, and a function may be called from any thread.

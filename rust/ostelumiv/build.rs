@@ -1,4 +1,4 @@
-//! Links the static library of the codec, libcodec.a.
+//! Links the static library of the C functions, libostelumiv.a.
 //!
 //! Its folder is the one that OSTELUMIV_LIB names (from the root of this repository, where it is no
 //! absolute path), else target/staticlib at that root.
@@ -15,7 +15,7 @@ fn main() {
     let here = env::var_os("CARGO_MANIFEST_DIR").expect("cargo sets CARGO_MANIFEST_DIR");
     let root = PathBuf::from(here).join("../..");
     let folder = root.join(env::var_os(VARIABLE).unwrap_or_else(|| DEFAULT_FOLDER.into()));
-    let library = folder.join("libcodec.a");
+    let library = folder.join("libostelumiv.a");
     println!("cargo::rerun-if-changed={}", library.display());
     if !library.is_file() {
         println!(
@@ -24,5 +24,5 @@ fn main() {
         );
     }
     println!("cargo::rustc-link-search=native={}", folder.display());
-    println!("cargo::rustc-link-lib=static=codec");
+    println!("cargo::rustc-link-lib=static=ostelumiv");
 }

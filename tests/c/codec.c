@@ -1,6 +1,6 @@
 /* Every function of include/ostelumiv.h with good, boundary and bad input. The expected values are written out, from document 01.
  *
- *   gcc -std=c99 -Wall -Wextra -Werror -I include tests/c/codec.c target/staticlib/libcodec.a
+ *   gcc -std=c99 -Wall -Wextra -Werror -I include tests/c/codec.c target/staticlib/libostelumiv.a
  *
  * It prints a line for each group, and stops with status 1 at the first check that fails. */
 #include "check.h"

@@ -1,8 +1,6 @@
 pub mod Bytes
 pub mod Command
 pub mod Dcf
-pub mod Exports
-pub mod ExportsReaders
 pub mod Refusals
 pub mod Request
 pub mod Sequence

@@ -166,7 +166,7 @@ pub fn command_number(id: CommandId) -> u8
 }
 
 // The segmentation of a number below 4; of any other, Complete.
-pub(crate) fn segmentation_of(n: u8) -> Segmentation
+pub fn segmentation_of(n: u8) -> Segmentation
     ensures { λ r. ⌜ r ≡ segmentationOf n ⌝ }
 {
     match n {
@@ -177,7 +177,8 @@ pub(crate) fn segmentation_of(n: u8) -> Segmentation
     }
 }
 
-pub(crate) fn segmentation_number(s: Segmentation) -> u8
+// The number of a segmentation.
+pub fn segmentation_number(s: Segmentation) -> u8
     ensures { λ r. ⌜ (r ≡ segmentationNumber s) × (r < 4) ⌝ }
 {
     match s {

@@ -47,7 +47,7 @@ pub enum Written {
 }
 
 // The receive state of a number below 4; of any other, the last one.
-pub(crate) fn receive_state(n: u8) -> ReceiveConnState
+pub fn receive_state(n: u8) -> ReceiveConnState
     ensures { λ r. ⌜ r ≡ receiveConnState n ⌝ }
 {
     match n {
@@ -59,7 +59,7 @@ pub(crate) fn receive_state(n: u8) -> ReceiveConnState
 }
 
 // The send state of a number below 4; of any other, the last one.
-pub(crate) fn send_state(n: u8) -> SendConnState
+pub fn send_state(n: u8) -> SendConnState
     ensures { λ r. ⌜ r ≡ sendConnState n ⌝ }
 {
     match n {
@@ -70,7 +70,8 @@ pub(crate) fn send_state(n: u8) -> SendConnState
     }
 }
 
-pub(crate) fn receive_number(s: ReceiveConnState) -> u8
+// The number of a receive state.
+pub fn receive_number(s: ReceiveConnState) -> u8
     ensures { λ r. ⌜ (r ≡ receiveConnNumber s) × (r < 4) ⌝ }
 {
     match s {
@@ -81,7 +82,8 @@ pub(crate) fn receive_number(s: ReceiveConnState) -> u8
     }
 }
 
-pub(crate) fn send_number(s: SendConnState) -> u8
+// The number of a send state.
+pub fn send_number(s: SendConnState) -> u8
     ensures { λ r. ⌜ (r ≡ sendConnNumber s) × (r < 4) ⌝ }
 {
     match s {

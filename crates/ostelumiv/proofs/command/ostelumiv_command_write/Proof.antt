@@ -1,0 +1,33 @@
+-- `ostelumiv::command::ostelumiv_command_write` meets its contract: what the numbers name is refused, or written. Assumes nothing.
+use mathlib.Core.Path.{refl}
+use Rattle.laws.proofs.Answers.{told}
+use Rattle.ostelumiv.specs.Command.{commandWriteFields, commandWriteBuffer}
+use borrow.Author.Needs.{needs}
+use Rattle.ostelumiv.proofs.command.ostelumiv_command_write.Statement.{statement}
+use Rattle.ostelumiv.proofs.command.ostelumiv_command_write.Tie as tie
+
+returns : tie.Need-returns
+returns c = (
+  told (λ x. commandWriteFields x (c .before .before .before .before .before .before .before .before .before .before .before .args .payload .now) (c .before .before .before .before .before .before .before .before .before .before .before .args .buffer .now)) (c .before .before .before .before .before .before .before .before .command-named .ensures) (c .before .before .before .before .before .before .c .given .1) (rw (← c .before .before .before .serialize .ensures .0) (c .written-fields .ensures)),
+  told (λ x. commandWriteBuffer x (c .before .before .before .before .before .before .before .before .before .before .before .args .payload .now) (c .before .before .before .before .before .before .before .before .before .before .before .args .buffer .now)) (c .before .before .before .before .before .before .before .before .command-named .ensures) (c .before .before .before .before .before .before .c .given .1) (c .before .before .before .serialize .ensures .1),
+)
+
+returns-2 : tie.Need-returns-2
+returns-2 c = (
+  told (λ x. commandWriteFields x (c .before .before .before .before .before .before .before .args .payload .now) (c .before .before .before .before .before .before .before .args .buffer .now)) (c .before .before .before .before .command-named .ensures) (c .before .before .r .given .1) (c .written-fields2 .ensures),
+  told (λ x. commandWriteBuffer x (c .before .before .before .before .before .before .before .args .payload .now) (c .before .before .before .before .before .before .before .args .buffer .now)) (c .before .before .before .before .command-named .ensures) (c .before .before .r .given .1) refl,
+)
+
+pub ostelumiv-command-write-spec : {M : Type 1} → statement M
+ostelumiv-command-write-spec =
+    tie.close
+    (tie.spec
+    (λ c κs. search needs)
+    (λ c. search needs)
+    (λ c κs. search needs)
+    (λ c κs. search needs)
+    (λ c. search needs)
+    (λ c κs. search needs)
+    (λ c. search needs)
+    returns
+    returns-2)

@@ -1,0 +1,5 @@
+pub mod Answers
+pub mod Command
+pub mod Dcf
+pub mod Request
+pub mod Sequence

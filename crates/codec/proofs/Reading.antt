@@ -78,19 +78,23 @@ module _ (b : Bytes) (c : DcfCursor) where
   unfolding dcfStep
   dcf-end e = is _ _ _ _ e refl
 
-  pub dcf-no-head : 0 < c .left → length b < c .at + 7 → DcfStep.Unreadable ≡ dcfStep b c
+  pub dcf-no-head : (c .left ≡ 0 → ⊥) → length b < c .at + 7 → DcfStep.Unreadable ≡ dcfStep b c
   unfolding dcfStep
-  dcf-no-head some h = is-not _ _ (c .left) 0 (λ e. omega arith) (beyond _ _ _ _ h refl)
+  dcf-no-head some h = is-not _ _ (c .left) 0 some (beyond _ _ _ _ h refl)
 
-  pub dcf-no-data : (len : ℕ) → len ≡ sizeAt b (c .at) → 0 < c .left → c .at + 7 ≤ length b → length b < c .at + 7 + len
+  pub dcf-no-data : (len : ℕ) → len ≡ sizeAt b (c .at) → (c .left ≡ 0 → ⊥) → 7 ≤ length b - c .at → length b - (c .at + 7) < len
       → DcfStep.Unreadable ≡ dcfStep b c
   unfolding dcfStep
   dcf-no-data len e some h k =
-      is-not _ _ (c .left) 0 (λ e. omega arith) (within _ _ _ _ h (beyond _ _ _ _ (rw e at k) refl))
+      let head : c .at + 7 ≤ length b = omega arith in
+      let past : length b < c .at + 7 + len = omega arith in
+      is-not _ _ (c .left) 0 some (within _ _ _ _ head (beyond _ _ _ _ (rw e at past) refl))
 
-  pub dcf-entry : (index len : ℕ) → index ≡ le16At b (c .at) → len ≡ sizeAt b (c .at) → 0 < c .left → c .at + 7 + len ≤ length b
+  pub dcf-entry : (index len : ℕ) → index ≡ le16At b (c .at) → len ≡ sizeAt b (c .at) → (c .left ≡ 0 → ⊥)
+      → 7 ≤ length b - c .at → len ≤ length b - (c .at + 7)
       → DcfStep.Entry index (getD b (c .at + 2) 0) (c .at + 7) len (record { at = c .at + 7 + len; left = c .left - 1 }) ≡ dcfStep b c
   unfolding dcfStep
-  dcf-entry index len ei el some h =
-      let k : c .at + 7 ≤ length b = omega arith in
-      is-not _ _ (c .left) 0 (λ e. omega arith) (within _ _ _ _ k (within _ _ _ _ (rw el at h) (rw (ei, el))))
+  dcf-entry index len ei el some h k =
+      let head : c .at + 7 ≤ length b = omega arith in
+      let whole : c .at + 7 + len ≤ length b = omega arith in
+      is-not _ _ (c .left) 0 some (within _ _ _ _ head (within _ _ _ _ (rw el at whole) (rw (ei, el))))

@@ -11,4 +11,4 @@ header-at-spec =
     (λ c. search needs)
     (λ c κs. search needs)
     (λ c κs. search needs)
-    (λ c. cc))
+    (λ c. rw (c .before .segmentation-of .ensures, c .le16-at .ensures)))

@@ -14,4 +14,4 @@ multiple-param-entry-spec =
     (λ c κs. search needs)
     (λ c. search needs)
     (λ c. search needs)
-    (λ c. is _ _ _ _ (c .before .before .before .if1 .left) (below _ _ _ _ (c .before .before .if2 .left) (cc))))
+    (λ c. is _ _ _ _ (c .before .before .before .if1 .left) (below _ _ _ _ (c .before .before .if2 .left) (rw (c .before .le16-at .ensures)))))

@@ -11,4 +11,4 @@ written-fields-spec =
     (λ c. search needs)
     (λ c κs. search needs)
     (λ c. rw (c .before .w .given .1))
-    (λ c. rw (c .before .before .w2 .given .1) (cc)))
+    (λ c. rw (c .before .before .w2 .given .1, c .refusal-number .ensures)))

@@ -19,7 +19,13 @@ returns-3 c =
     let a = c .before .before .before .before .before .before .before .before .before .args in
     not-below _ _ _ _ (c .before .before .before .before .before .before .before .before .if1 .left)
     (told (λ d. commandWith (a .transaction) (a .response) (a .aborted) (a .segmentation) d (a .segment) (sizeNamed (a .has) (a .size)))
-    (c .before .before .before .before .before .before .before .command-of .ensures) (c .before .before .before .before .before .command-id .given .1) (cc))
+    (c .before .before .before .before .before .before .before .command-of .ensures) (c .before .before .before .before .before .command-id .given .1)
+    (rw (
+      c .before .before .before .flagged-by .ensures,
+      c .before .before .flagged-by2 .ensures,
+      c .before .segmentation-of .ensures,
+      c .size-named .ensures,
+    )))
 
 pub command-named-spec : {M : Type 1} → statement M
 command-named-spec =

@@ -7,16 +7,23 @@ use Rattle.ostelumiv.proofs.command.ostelumiv_command_write.Statement.{
 use Rattle.ostelumiv.proofs.command.ostelumiv_command_write.Tie as tie
 
 returns : tie.Need-returns
-returns c = (
-  told (λ x. commandWriteFields x (c .before .before .before .before .before .before .before .before .before .before .before .args .payload .now) (c .before .before .before .before .before .before .before .before .before .before .before .args .buffer .now)) (c .before .before .before .before .before .before .before .before .command-named .ensures) (c .before .before .before .before .before .before .c .given .1) (rw (← c .before .before .before .serialize .ensures .0) (c .written-fields .ensures)),
-  told (λ x. commandWriteBuffer x (c .before .before .before .before .before .before .before .before .before .before .before .args .payload .now) (c .before .before .before .before .before .before .before .before .before .before .before .args .buffer .now)) (c .before .before .before .before .before .before .before .before .command-named .ensures) (c .before .before .before .before .before .before .c .given .1) (c .before .before .before .serialize .ensures .1),
-)
+returns c =
+    let a = c .before .before .before .before .before .before .before .before .before .before .before .args in
+    let named = c .before .before .before .before .before .before .before .before .command-named .ensures in
+    let found = c .before .before .before .before .before .before .c .given .1 in
+    let done = c .before .before .before .serialize .ensures in (
+      told (λ x. commandWriteFields x (a .payload .now) (a .buffer .now)) named found (rw (← done .0) (c .written-fields .ensures)),
+      told (λ x. commandWriteBuffer x (a .payload .now) (a .buffer .now)) named found (done .1),
+    )
 
 returns-2 : tie.Need-returns-2
-returns-2 c = (
-  told (λ x. commandWriteFields x (c .before .before .before .before .before .before .before .args .payload .now) (c .before .before .before .before .before .before .before .args .buffer .now)) (c .before .before .before .before .command-named .ensures) (c .before .before .r .given .1) (c .written-fields2 .ensures),
-  told (λ x. commandWriteBuffer x (c .before .before .before .before .before .before .before .args .payload .now) (c .before .before .before .before .before .before .before .args .buffer .now)) (c .before .before .before .before .command-named .ensures) (c .before .before .r .given .1) refl,
-)
+returns-2 c =
+    let a = c .before .before .before .before .before .before .before .args in
+    let named = c .before .before .before .before .command-named .ensures in
+    let found = c .before .before .r .given .1 in (
+      told (λ x. commandWriteFields x (a .payload .now) (a .buffer .now)) named found (c .written-fields2 .ensures),
+      told (λ x. commandWriteBuffer x (a .payload .now) (a .buffer .now)) named found refl,
+    )
 
 pub ostelumiv-command-write-spec : {M : Type 1} → statement M
 ostelumiv-command-write-spec =

@@ -12,4 +12,4 @@ header-named-spec =
     (λ c. search (needs, not-below, below))
     (λ c κs. search needs)
     (λ c κs. search needs)
-    (λ c. not-below _ _ _ _ (c .before .before .before .if1 .left) (not-below _ _ _ _ (c .before .before .if2 .left) (cc))))
+    (λ c. not-below _ _ _ _ (c .before .before .before .if1 .left) (not-below _ _ _ _ (c .before .before .if2 .left) (rw (c .before .receive-state .ensures, c .send-state .ensures)))))

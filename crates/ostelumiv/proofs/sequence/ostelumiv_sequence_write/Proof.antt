@@ -7,16 +7,23 @@ use Rattle.ostelumiv.proofs.sequence.ostelumiv_sequence_write.Statement
 use Rattle.ostelumiv.proofs.sequence.ostelumiv_sequence_write.Tie as tie
 
 returns : tie.Need-returns
-returns c = (
-  told (λ x. sequenceWriteFields x (c .before .before .before .before .before .before .before .before .before .before .args .buffer .now)) (c .before .before .before .before .before .before .before .before .header-named .ensures) (c .before .before .before .before .before .before .h .given .1) (rw (← c .before .before .before .serialize .ensures .0) (c .written-fields .ensures)),
-  told (λ x. sequenceWriteBuffer x (c .before .before .before .before .before .before .before .before .before .before .args .buffer .now)) (c .before .before .before .before .before .before .before .before .header-named .ensures) (c .before .before .before .before .before .before .h .given .1) (c .before .before .before .serialize .ensures .1),
-)
+returns c =
+    let a = c .before .before .before .before .before .before .before .before .before .before .args in
+    let named = c .before .before .before .before .before .before .before .before .header-named .ensures in
+    let found = c .before .before .before .before .before .before .h .given .1 in
+    let done = c .before .before .before .serialize .ensures in (
+      told (λ x. sequenceWriteFields x (a .buffer .now)) named found (rw (← done .0) (c .written-fields .ensures)),
+      told (λ x. sequenceWriteBuffer x (a .buffer .now)) named found (done .1),
+    )
 
 returns-2 : tie.Need-returns-2
-returns-2 c = (
-  told (λ x. sequenceWriteFields x (c .before .before .before .before .before .before .args .buffer .now)) (c .before .before .before .before .header-named .ensures) (c .before .before .r .given .1) (c .written-fields2 .ensures),
-  told (λ x. sequenceWriteBuffer x (c .before .before .before .before .before .before .args .buffer .now)) (c .before .before .before .before .header-named .ensures) (c .before .before .r .given .1) refl,
-)
+returns-2 c =
+    let a = c .before .before .before .before .before .before .args in
+    let named = c .before .before .before .before .header-named .ensures in
+    let found = c .before .before .r .given .1 in (
+      told (λ x. sequenceWriteFields x (a .buffer .now)) named found (c .written-fields2 .ensures),
+      told (λ x. sequenceWriteBuffer x (a .buffer .now)) named found refl,
+    )
 
 pub ostelumiv-sequence-write-spec : {M : Type 1} → statement M
 ostelumiv-sequence-write-spec =

@@ -12,4 +12,4 @@ from-payload-spec =
     (λ c κs. search needs)
     (λ c. search needs)
     (λ c. search needs)
-    (λ c. not-below _ _ _ _ (c .before .before .if1 .left) (cc)))
+    (λ c. not-below _ _ _ _ (c .before .before .if1 .left) (rw (c .before .le16-at .ensures))))

@@ -14,4 +14,4 @@ deserialize-spec =
     (λ c. search needs)
     (λ c κs. search needs)
     (λ c κs. search needs)
-    (λ c. sequence-whole _ _ (omega arith) (cc)))
+    (λ c. sequence-whole _ _ (omega arith) (rw (c .before .receive-state .ensures, c .send-state .ensures))))

@@ -8,7 +8,7 @@ use lib.ListN.{length, getD, take, drop}
 use Rattle.laws.proofs.Picks.{is, is-not, within, beyond, below, not-below}
 use Rattle.codec.specs.Bytes.{Bytes, le16At, partAt}
 use Rattle.codec.specs.Command.{commandOf, headerAt, headLength, dataSizeAt, tooShort, readPayload, commandRead}
-use Rattle.codec.specs.Dcf.{sizeAt, behind, dcfStep}
+use Rattle.codec.specs.Dcf.{sizeAt, dcfStep}
 use Rattle.codec.specs.Sequence.{headerOf, sequenceRead}
 use Rattle.codec.specs.declared.command.CommandDecoded.{CommandDecoded}
 use Rattle.codec.specs.declared.command.CommandId.{CommandId}

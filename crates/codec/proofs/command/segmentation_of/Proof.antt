@@ -1,6 +1,5 @@
 -- `codec::command::segmentation_of` meets its contract: each arm is one of the four. Assumes nothing.
 use Rattle.laws.proofs.Picks.{among-0, among-1, among-2, among-3}
-use borrow.Author.Needs.{needs}
 use Rattle.codec.proofs.command.segmentation_of.Statement.{statement}
 use Rattle.codec.proofs.command.segmentation_of.Tie as tie
 

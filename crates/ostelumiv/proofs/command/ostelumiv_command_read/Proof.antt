@@ -1,5 +1,4 @@
 -- `ostelumiv::command::ostelumiv_command_read` meets its contract: each arm tells its answer by `commandFields`. Assumes nothing.
-use mathlib.Core.Path.{refl}
 use Rattle.laws.proofs.Answers.{told}
 use Rattle.ostelumiv.specs.Command.{commandFields}
 use borrow.Author.Needs.{needs}

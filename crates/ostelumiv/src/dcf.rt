@@ -1,7 +1,7 @@
 // The concise DCF by numbers: its count, and what stands at a cursor.
 ghost use mathlib.Core.Path.{_≡_};
 ghost use Rattle.codec.specs.Dcf.{dcfCount, dcfStep};
-ghost use Rattle.ostelumiv.specs.Dcf.{countFields, stepFields};
+ghost use Rattle.ostelumiv.specs.Dcf.{countFields, noEntry, stepFields};
 use crate::answers::CountFields;
 use crate::answers::count_refused;
 use codec::dcf::DcfCount;
@@ -19,6 +19,21 @@ pub struct StepFields {
     pub len: usize,
     pub next_at: usize,
     pub next_left: u32,
+}
+
+// A step that finds no entry, and which kind of none it is.
+fn no_entry(kind: u8) -> StepFields
+    ensures { λ r. ⌜ r ≡ noEntry kind ⌝ }
+{
+    StepFields {
+        kind,
+        sub_index: 0,
+        index: 0,
+        start: 0,
+        len: 0,
+        next_at: 0,
+        next_left: 0,
+    }
 }
 
 // How many entries a DCF counts.
@@ -56,23 +71,7 @@ pub extern "C" fn ostelumiv_dcf_step(dcf: &[u8], at: usize, left: u32) -> StepFi
             next_at: next.at,
             next_left: next.left,
         },
-        DcfStep::End => StepFields {
-            kind: 0,
-            sub_index: 0,
-            index: 0,
-            start: 0,
-            len: 0,
-            next_at: 0,
-            next_left: 0,
-        },
-        DcfStep::Unreadable => StepFields {
-            kind: 2,
-            sub_index: 0,
-            index: 0,
-            start: 0,
-            len: 0,
-            next_at: 0,
-            next_left: 0,
-        },
+        DcfStep::End => no_entry(0),
+        DcfStep::Unreadable => no_entry(2),
     }
 }

@@ -4,17 +4,17 @@ use native.Mathlib.Omega.{arith}
 use mathlib.Core.Path.{_≡_, refl, sym, ap, _∙_}
 use mathlib.Core.Bool.{Bool, true, false}
 use mathlib.Core.List.{List, [], _∷_, _++_, append-nil}
-use lib.Dec.{leb}
+use lib.Dec.{eqb, leb}
 use lib.ListN.{length, take, drop, getD, set, drop-of-length-le, length-take}
 use lib.Seq.{take-all, take-at, take-append-seam}
-use borrow.Author.Tests.{leb-true, leb-false}
+use borrow.Author.Tests.{eqb-true, leb-true, leb-false}
 use Rattle.laws.specs.Pick.{pick}
 use Rattle.codec.specs.Bytes.{Bytes}
 use Rattle.codec.specs.Writing.{bufferAfter}
 use Rattle.connection.specs.Payload.{payloadOf}
 use Rattle.connection.specs.Record.{newConnection}
-use Rattle.manager.specs.Calls.{refusing, leaving, roomIn, sentTo, walkedTo, walkedManager, walkedOutput, heldAt, repliedAs, takesNumber, targetAt, targetOf}
-use Rattle.manager.specs.Table.{blank, live, tableOf, findIn, freeRoom}
+use Rattle.manager.specs.Calls.{refusing, leaving, roomIn, sentTo, walkedTo, walkedManager, walkedOutput, heldAt, repliedAs, HasPlace, Job, jobRoom, numberOf, seatAt, seatOf, startAt, startDone, startJob, startStore, startStoreAt, startedBy, startedHeld, startedNew, takesNumber, targetAt, targetOf, withRoom}
+use Rattle.manager.specs.Table.{blank, live, tableOf, findIn, freeRoom, storeSize}
 use Rattle.manager.specs.Types.{
   Answer,
   Changed,
@@ -25,6 +25,7 @@ use Rattle.manager.specs.Types.{
   Refusal,
   SdoClientConnection,
   SdoClientManager,
+  Seat,
   Sends,
   Step,
   Stepped,
@@ -145,20 +146,77 @@ module _ (m : SdoClientManager) (t : Turn) (now : Now) (store output : Bytes) (w
           (rw (el, es, ep), ea ∙ rw (es, ep))
 
 -- a start for a new node is taken only below eight
-abbrev pub Room : SdoClientManager → Target → Type 0
-Room m (Target.Held k c) = Unit
-Room m (Target.New c) = length (live m) < 8
-Room m Target.Full = Unit
-
-pub target-room : (m : SdoClientManager) (node : ℕ) → Room m (targetOf m node)
+pub target-place : (m : SdoClientManager) (node : ℕ) (t : Target) → t ≡ targetOf m node → HasPlace t m
 unfolding targetOf pick
-target-room m node = go (findIn node (live m))
+target-place m node t e = rw e (go (findIn node (live m)))
   where
     new : (b : Bool) → leb 8 (length (live m)) ≡ b
-        → Room m (pick b Target.Full (Target.New (newConnection node (freeRoom (live m)))))
+        → HasPlace (pick b Target.Full (Target.New (newConnection node (freeRoom (live m))))) m
     new true e = tt
     new false e = leb-false 8 (length (live m)) e
 
-    go : (f : Found) → Room m (targetAt f m node)
+    go : (f : Found) → HasPlace (targetAt f m node) m
     go (Found.At k) = tt
     go Found.Absent = new (leb 8 (length (live m))) refl
+
+-- what a start comes to, by its target
+by-held : (a : Changed) (k : ℕ) (c : SdoClientConnection) (m : SdoClientManager) → startedBy a (Target.Held k c) m ≡ startedHeld a k m
+unfolding startedBy
+by-held (Changed.Connection d) k c m = refl
+by-held (Changed.Refused r) k c m = refl
+
+by-new : (a : Changed) (c : SdoClientConnection) (m : SdoClientManager) → startedBy a (Target.New c) m ≡ startedNew a c m
+unfolding startedBy
+by-new (Changed.Connection d) c m = refl
+by-new (Changed.Refused r) c m = refl
+
+-- a start by its seat: the store has its size where there is one
+module _ (t : Target) (store : Bytes) (s : Seat) (e : s ≡ seatOf t (length store)) where
+  unfolded : (size : Bool) → eqb (length store) storeSize ≡ size → s ≡ pick size (seatAt t) (Seat.Refused Refusal.WrongStore)
+  unfolding seatOf
+  unfolded size f = e ∙ rw f
+
+  pub seat-sized : (c : SdoClientConnection) → s ≡ Seat.On c → length store ≡ 32768
+  unfolding pick
+  seat-sized c g = go (eqb (length store) storeSize) refl
+    where
+      go : (size : Bool) → eqb (length store) storeSize ≡ size → length store ≡ 32768
+      go true f = eqb-true (length store) storeSize f
+      go false f = let h = unfolded false f in let z : _≡_ {A = ℕ} 0 1 = cc in absurd (omega arith)
+
+  module _ (m : SdoClientManager) (node : ℕ) (job : Job) (n : Now) (f : t ≡ targetOf m node) where
+    pub start-refused : (r : Refusal) (d : Done) → s ≡ Seat.Refused r → d ≡ refusing m r
+        → (d ≡ startDone m node job n store) × (store ≡ startStore m node job n store)
+    unfolding startDone startStore pick
+    start-refused r d g h = rw (← f) (go (eqb (length store) storeSize) refl t refl)
+      where
+        go : (size : Bool) → eqb (length store) storeSize ≡ size → (x : Target) → t ≡ x
+            → (d ≡ pick size (startAt x m job n store) (refusing m Refusal.WrongStore))
+            × (store ≡ pick size (startStoreAt x m job n store) store)
+        go false i x j = let same : r ≡ Refusal.WrongStore = cc (unfolded false i) in (h ∙ rw same, refl)
+        go true i Target.Full j = let same : r ≡ Refusal.TableFull = cc (unfolded true i, j) in (h ∙ rw same, refl)
+        go true i (Target.Held k c) j = let z : _≡_ {A = ℕ} 0 1 = cc (unfolded true i, j) in absurd (omega arith)
+        go true i (Target.New c) j = let z : _≡_ {A = ℕ} 0 1 = cc (unfolded true i, j) in absurd (omega arith)
+
+    pub start-on : (c : SdoClientConnection) (number : ℕ) (a : Changed) (d : Done) (after : Bytes) → s ≡ Seat.On c
+        → number ≡ numberOf m → a ≡ startJob job c number n (roomIn store c) → d ≡ startedBy a t m
+        → after ≡ withRoom store c (jobRoom job (startJob job c number n (roomIn store c)) (roomIn store c))
+        → (d ≡ startDone m node job n store) × (after ≡ startStore m node job n store)
+    unfolding startDone startStore startedBy pick
+    start-on c number a d after g v w h q = rw (← f) (go (eqb (length store) storeSize) refl t refl)
+      where
+        on : (b : SdoClientConnection) → c ≡ b
+            → startJob job c number n (roomIn store c) ≡ startJob job b (numberOf m) n (roomIn store b)
+        on b same = rw (same, v)
+
+        go : (size : Bool) → eqb (length store) storeSize ≡ size → (x : Target) → t ≡ x
+            → (d ≡ pick size (startAt x m job n store) (refusing m Refusal.WrongStore))
+            × (after ≡ pick size (startStoreAt x m job n store) store)
+        go false i x j = let z : _≡_ {A = ℕ} 0 1 = cc (unfolded false i) in absurd (omega arith)
+        go true i Target.Full j = let z : _≡_ {A = ℕ} 0 1 = cc (unfolded true i, j) in absurd (omega arith)
+        go true i (Target.Held k b) j =
+            let same : c ≡ b = cc (unfolded true i, j) in
+            (h ∙ rw (j, by-held a k b m, w, on b same), q ∙ rw (on b same, same))
+        go true i (Target.New b) j =
+            let same : c ≡ b = cc (unfolded true i, j) in
+            (h ∙ rw (j, by-new a b m, w, on b same), q ∙ rw (on b same, same))

@@ -18,6 +18,7 @@ pub use Rattle.manager.specs.declared.types.Done.{Done}
 pub use Rattle.manager.specs.declared.types.Ends.{Ends}
 pub use Rattle.manager.specs.declared.types.Found.{Found}
 pub use Rattle.manager.specs.declared.types.SdoClientManager.{SdoClientManager}
+pub use Rattle.manager.specs.declared.types.Seat.{Seat}
 pub use Rattle.manager.specs.declared.types.SentTo.{SentTo}
 pub use Rattle.manager.specs.declared.types.Target.{Target}
 pub use Rattle.manager.specs.declared.types.Turn.{Turn}

@@ -2,6 +2,7 @@
 ghost use mathlib.Core.Path.{_≡_};
 ghost use Rattle.manager.specs.Calls.{
   refusing as refusingOf,
+  nothingDone as nothingDoneOf,
   leaving as leavingOf,
   sentTo,
   walkedManager,
@@ -35,6 +36,17 @@ pub(crate) fn refusing(m: SdoClientManager, r: Refusal) -> Done
     Done {
         manager: m,
         answer: Answer::Refused(r),
+        ends: no_ends(),
+    }
+}
+
+// A call that sends nothing, refuses nothing and ends nothing.
+pub(crate) fn nothing_done(m: SdoClientManager) -> Done
+    ensures { λ d. ⌜ d ≡ nothingDoneOf m ⌝ }
+{
+    Done {
+        manager: m,
+        answer: Answer::Nothing,
         ends: no_ends(),
     }
 }

@@ -1,7 +1,8 @@
 // Reply: a command from a node's server, handed to that node's connection alone.
 ghost use mathlib.Core.Path.{_≡_};
-ghost use Rattle.manager.specs.Calls.{repliedAs, nothingDone as nothingDoneOf, replyDone, replyStore};
+ghost use Rattle.manager.specs.Calls.{repliedAs, replyDone, replyStore};
 use crate::ask::leaving;
+use crate::ask::nothing_done;
 use crate::ask::refusing;
 use crate::room::reply_in;
 use crate::table::find;
@@ -11,21 +12,10 @@ use crate::types::Answer;
 use crate::types::Done;
 use crate::types::Found;
 use crate::types::SdoClientManager;
-use crate::types::no_ends;
 use codec::command::SdoCommand;
 use codec::refusal::Refusal;
 use codec::sequence::SequenceLayerHeader;
 use connection::types::Changed;
-
-fn nothing_done(m: SdoClientManager) -> Done
-    ensures { λ d. ⌜ d ≡ nothingDoneOf m ⌝ }
-{
-    Done {
-        manager: m,
-        answer: Answer::Nothing,
-        ends: no_ends(),
-    }
-}
 
 fn replied_as(a: Changed, place: usize, m: SdoClientManager) -> Done
     ensures { λ d. ⌜ d ≡ repliedAs a place m ⌝ }

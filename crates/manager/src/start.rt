@@ -1,31 +1,31 @@
 // Starts: a job for a node, on the connection it has or on a new one. Refusals 9, 6, 4, 5, 7, 8, in this order.
 ghost use mathlib.Core.Path.{_≡_};
 ghost use mathlib.Core.Bool.{true, false};
-ghost use Prim.Native.Nat.{_<_};
-ghost use lib.ListN.{length};
 ghost use Rattle.manager.specs.Calls.{
   writes,
   reads,
   loads,
   stepped as steppedOf,
   takesNumber,
-  startedHeld,
-  startedNew,
+  HasPlace,
+  enteredOf,
+  numberedOf,
+  startedBy,
+  seatOf,
   startDone,
   startStore,
 };
-ghost use Rattle.manager.specs.Table.{live};
+use crate::ask::nothing_done;
 use crate::ask::refusing;
 use crate::room::dcf_in;
 use crate::room::write_in;
 use crate::table::insert;
 use crate::table::replace;
 use crate::table::target_of;
-use crate::types::Answer;
 use crate::types::Done;
 use crate::types::SdoClientManager;
+use crate::types::Seat;
 use crate::types::Target;
-use crate::types::no_ends;
 use codec::refusal::Refusal;
 use connection::reply::next_transaction;
 use connection::types::Changed;
@@ -60,42 +60,65 @@ fn stepped(m: SdoClientManager) -> SdoClientManager
     }
 }
 
-fn started_held(a: Changed, place: usize, m: SdoClientManager) -> Done
-    ensures { λ d. ⌜ d ≡ startedHeld a place m ⌝ }
+// The table after a job was started: its connection in the place it has, or in a new one.
+fn entered(t: Target, c: SdoClientConnection, m: SdoClientManager) -> SdoClientManager
+    requires { ⌜ HasPlace t m ⌝ }
+    ensures { λ r. ⌜ r ≡ enteredOf t c m ⌝ }
+{
+    let number = next_transaction(m.next_transaction_id);
+    match t {
+        Target::Held(place, _) => replace(m, place, c, number),
+        Target::New(_) => insert(m, c, number),
+        Target::Full => m,
+    }
+}
+
+// The table after a refusal that takes a number: a new node's connection is entered, Idle.
+fn numbered(t: Target, m: SdoClientManager) -> SdoClientManager
+    requires { ⌜ HasPlace t m ⌝ }
+    ensures { λ r. ⌜ r ≡ numberedOf t m ⌝ }
+{
+    match t {
+        Target::Held(_, _) => stepped(m),
+        Target::New(c) => insert(m, c, next_transaction(m.next_transaction_id)),
+        Target::Full => m,
+    }
+}
+
+// What a start comes to, by its connection's answer.
+fn started(a: Changed, t: Target, m: SdoClientManager) -> Done
+    requires { ⌜ HasPlace t m ⌝ }
+    ensures { λ d. ⌜ d ≡ startedBy a t m ⌝ }
 {
     match a {
-        Changed::Connection(c) => Done {
-            manager: replace(m, place, c, next_transaction(m.next_transaction_id)),
-            answer: Answer::Nothing,
-            ends: no_ends(),
-        },
+        Changed::Connection(c) => nothing_done(entered(t, c, m)),
         Changed::Refused(r) => {
             if takes_number(r) {
-                return refusing(stepped(m), r);
+                return refusing(numbered(t, m), r);
             }
             refusing(m, r)
         }
     }
 }
 
-fn started_new(a: Changed, fresh: SdoClientConnection, m: SdoClientManager) -> Done
-    requires { ⌜ length (live m) < 8 ⌝ }
-    ensures { λ d. ⌜ d ≡ startedNew a fresh m ⌝ }
+// The connection that a start's job goes to, or 9 or 6.
+fn seat_of(t: Target, store: usize) -> Seat
+    ensures { λ s. ⌜ s ≡ seatOf t store ⌝ }
 {
-    let number = next_transaction(m.next_transaction_id);
-    match a {
-        Changed::Connection(c) => Done {
-            manager: insert(m, c, number),
-            answer: Answer::Nothing,
-            ends: no_ends(),
-        },
-        Changed::Refused(r) => {
-            if takes_number(r) {
-                return refusing(insert(m, fresh, number), r);
+    if store == 32768 {
+        match t {
+            Target::Held(_, c) => {
+                return Seat::On(c);
             }
-            refusing(m, r)
+            Target::New(c) => {
+                return Seat::On(c);
+            }
+            Target::Full => {
+                return Seat::Refused(Refusal::TableFull);
+            }
         }
     }
+    Seat::Refused(Refusal::WrongStore)
 }
 
 impl SdoClientManager {
@@ -110,21 +133,12 @@ impl SdoClientManager {
         ensures { λ d. ⌜ d ≡ startDone self target (loads (now (dcf .entry))) «when» (now (store .entry)) ⌝ }
         ensures { λ _. ⌜ now (store .exit) ≡ startStore self target (loads (now (dcf .entry))) «when» (now (store .entry)) ⌝ }
     {
-        if store.len() == 32768 {
-            let number = next_transaction(self.next_transaction_id);
-            match target_of(self, target) {
-                Target::Held(k, c) => {
-                    return started_held(dcf_in(c, dcf, number, when, store), k, self);
-                }
-                Target::New(c) => {
-                    return started_new(dcf_in(c, dcf, number, when, store), c, self);
-                }
-                Target::Full => {
-                    return refusing(self, Refusal::TableFull);
-                }
-            }
+        let t = target_of(self, target);
+        let number = next_transaction(self.next_transaction_id);
+        match seat_of(t, store.len()) {
+            Seat::On(c) => started(dcf_in(c, dcf, number, when, store), t, self),
+            Seat::Refused(r) => refusing(self, r),
         }
-        refusing(self, Refusal::WrongStore)
     }
 
     // Starts a job that writes an object of a node.
@@ -140,29 +154,16 @@ impl SdoClientManager {
         ensures { λ d. ⌜ d ≡ startDone self target (writes index «sub_index» (now (bytes .entry))) «when» (now (store .entry)) ⌝ }
         ensures { λ _. ⌜ now (store .exit) ≡ startStore self target (writes index «sub_index» (now (bytes .entry))) «when» (now (store .entry)) ⌝ }
     {
-        if store.len() == 32768 {
-            let number = next_transaction(self.next_transaction_id);
-            match target_of(self, target) {
-                Target::Held(k, c) => {
-                    return started_held(
-                        write_in(c, index, sub_index, bytes, number, when, store),
-                        k,
-                        self,
-                    );
-                }
-                Target::New(c) => {
-                    return started_new(
-                        write_in(c, index, sub_index, bytes, number, when, store),
-                        c,
-                        self,
-                    );
-                }
-                Target::Full => {
-                    return refusing(self, Refusal::TableFull);
-                }
-            }
+        let t = target_of(self, target);
+        let number = next_transaction(self.next_transaction_id);
+        match seat_of(t, store.len()) {
+            Seat::On(c) => started(
+                write_in(c, index, sub_index, bytes, number, when, store),
+                t,
+                self,
+            ),
+            Seat::Refused(r) => refusing(self, r),
         }
-        refusing(self, Refusal::WrongStore)
     }
 
     // Starts a job that reads an object of a node.
@@ -176,20 +177,11 @@ impl SdoClientManager {
     ) -> Done
         ensures { λ d. ⌜ d ≡ startDone self target (reads index «sub_index») «when» (now (store .entry)) ⌝ }
     {
-        if store.len() == 32768 {
-            let number = next_transaction(self.next_transaction_id);
-            match target_of(self, target) {
-                Target::Held(k, c) => {
-                    return started_held(c.start_read_job(index, sub_index, number, when), k, self);
-                }
-                Target::New(c) => {
-                    return started_new(c.start_read_job(index, sub_index, number, when), c, self);
-                }
-                Target::Full => {
-                    return refusing(self, Refusal::TableFull);
-                }
-            }
+        let t = target_of(self, target);
+        let number = next_transaction(self.next_transaction_id);
+        match seat_of(t, store.len()) {
+            Seat::On(c) => started(c.start_read_job(index, sub_index, number, when), t, self),
+            Seat::Refused(r) => refusing(self, r),
         }
-        refusing(self, Refusal::WrongStore)
     }
 }

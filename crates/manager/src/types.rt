@@ -56,6 +56,12 @@ pub enum Target {
     Full,
 }
 
+// The connection that a start's job goes to, or why there is none.
+pub enum Seat {
+    On(SdoClientConnection),
+    Refused(Refusal),
+}
+
 // Which call walks the table.
 pub enum Turn {
     Asking,

@@ -1,10 +1,9 @@
 -- What a start comes to, by the tests that decide it, and what it leaves in the room. Assumes nothing.
 use Prim.Native.Nat.{ℕ, _+_, _<_, _≤_}
 use native.Mathlib.Omega.{arith}
-use mathlib.Core.Path.{_≡_, refl, sym, ap, _∙_}
+use mathlib.Core.Path.{_≡_, refl, ap, _∙_}
 use mathlib.Core.Bool.{Bool, true, false}
 use lib.ListN.{length}
-use Rattle.laws.proofs.Answers.{told}
 use Rattle.laws.proofs.Picks.{below, beyond, fails, holds, not-below, within}
 use Rattle.codec.specs.Bytes.{Bytes, placed}
 use Rattle.codec.specs.Dcf.{dcfStep}
@@ -33,9 +32,9 @@ module _ (bytes room : Bytes) where
   refused-leaves : (r : Refusal) (defined : Changed) → Changed.Refused r ≡ defined → Leaves (Changed.Refused r) room defined bytes room
   refused-leaves r defined e = (e, ap (λ (x : Changed). roomWith x bytes room) e)
 
-  pub answered : (answer found defined : Changed) (after : Bytes) → answer ≡ defined → answer ≡ found
-      → after ≡ roomWith found bytes room → Leaves found after defined bytes room
-  answered answer found defined after e g h = (sym g ∙ e, told (λ (x : Changed). roomWith x bytes room) e g h)
+  pub answered : (answer defined : Changed) (after : Bytes) → answer ≡ defined → after ≡ roomWith answer bytes room
+      → Leaves answer after defined bytes room
+  answered answer defined after e h = (e, h ∙ ap (λ (x : Changed). roomWith x bytes room) e)
 
   pub put-whole : (after : Bytes) → length bytes ≤ length room → after ≡ putBuffer room 0 bytes → after ≡ placed room 0 bytes
   put-whole after h e = e ∙ put-fits room bytes 0 (omega arith)

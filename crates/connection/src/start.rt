@@ -143,6 +143,20 @@ fn dcf_transaction(d: DcfStep, tid: u8) -> u8
     }
 }
 
+// A start puts the job's bytes at the start of the room; a refused one leaves the room as it was.
+fn keep_bytes(answer: Changed, bytes: &[u8], room: &mut [u8])
+    requires { ⌜ length (now bytes) ≤ length (now room) ⌝ }
+    ensures { λ _. ⌜ now (room .exit) ≡ roomWith answer (now (bytes .entry)) (now (room .entry)) ⌝ }
+{
+    match answer {
+        Changed::Connection(_) => {
+            put(room, 0, bytes);
+            return;
+        }
+        Changed::Refused(_) => return,
+    }
+}
+
 impl SdoClientConnection {
     // Starts a job that reads an object. 4 where a job is running, 8 where the deadline does not fit.
     pub fn start_read_job(self, index: u16, sub_index: u8, tid: u8, when: Now) -> Changed
@@ -198,15 +212,9 @@ impl SdoClientConnection {
                 loaded,
                 PendingRead::NoRead,
             );
-            match started(self, tid, when, job) {
-                Changed::Connection(c) => {
-                    put(room, 0, bytes);
-                    return Changed::Connection(c);
-                }
-                Changed::Refused(r) => {
-                    return Changed::Refused(r);
-                }
-            }
+            let answer = started(self, tid, when, job);
+            keep_bytes(answer, bytes, room);
+            return answer;
         }
         Changed::Refused(Refusal::Busy)
     }
@@ -228,15 +236,9 @@ impl SdoClientConnection {
             let first = DcfCursor { at: 4, left: count };
             let step = dcf_step(dcf, first);
             let job = dcf_job(step, dcf.len(), first);
-            match started(self, dcf_transaction(step, tid), when, job) {
-                Changed::Connection(c) => {
-                    put(room, 0, dcf);
-                    return Changed::Connection(c);
-                }
-                Changed::Refused(r) => {
-                    return Changed::Refused(r);
-                }
-            }
+            let answer = started(self, dcf_transaction(step, tid), when, job);
+            keep_bytes(answer, dcf, room);
+            return answer;
         }
         Changed::Refused(Refusal::Busy)
     }

@@ -1,7 +1,7 @@
 -- `connection::SdoClientConnection::start_write_job` meets its contract: each refusal leaves the room, and a start puts the bytes. Assumes nothing.
 use native.Mathlib.Omega.{arith}
-use mathlib.Core.Path.{refl, _∙_}
-use Rattle.connection.proofs.StartCases.{answered, put-whole, write-busy, write-no-room, write-starts}
+use mathlib.Core.Path.{_∙_}
+use Rattle.connection.proofs.StartCases.{answered, write-busy, write-no-room, write-starts}
 use borrow.Author.Needs.{needs}
 use Rattle.connection.proofs.types.SdoClientConnection.start_write_job.Statement.{statement}
 use Rattle.connection.proofs.types.SdoClientConnection.start_write_job.Tie as tie
@@ -16,23 +16,14 @@ returns-2 c =
 
 returns-3 : tie.Need-returns-3
 returns-3 c =
-    let a = c .before .before .before .before .before .before .before .before .before .before .before .before .before .before .before .before .args in
+    let a = c .before .before .before .before .before .before .before .before .before .before .before .before .before .args in
     let e =
-    write-starts (a .self) (a .tid) (a .when) (a .index) (a .sub-index) (a .bytes .now) (a .room .now) _ (c .before .before .before .before .before .before .before .before .before .before .before .before .before .is-idle .ensures) _ (c .before .before .before .before .before .before .before .before .before .before .before .before .if1 .taken) (omega arith)
-    (c .before .before .before .before .before .before .before .started .ensures ∙ rw (c .before .before .before .before .before .before .before .before .job-with .ensures)) in
-    answered (a .bytes .now) (a .room .now) _ _ _ _ e (c .before .before .before .before .before .c .given .1)
-    (put-whole (a .bytes .now) (a .room .now) _ (omega arith) (c .before .before .put .ensures .1))
+    write-starts (a .self) (a .tid) (a .when) (a .index) (a .sub-index) (a .bytes .now) (a .room .now) _ (c .before .before .before .before .before .before .before .before .before .before .is-idle .ensures) _ (c .before .before .before .before .before .before .before .before .before .if1 .taken) (omega arith)
+    (c .before .before .before .before .started .ensures ∙ rw (c .before .before .before .before .before .job-with .ensures)) in
+    answered (a .bytes .now) (a .room .now) _ _ _ e (c .before .before .keep-bytes .ensures)
 
 returns-4 : tie.Need-returns-4
 returns-4 c =
-    let a = c .before .before .before .before .before .before .before .before .before .before .before .before .args in
-    let e =
-    write-starts (a .self) (a .tid) (a .when) (a .index) (a .sub-index) (a .bytes .now) (a .room .now) _ (c .before .before .before .before .before .before .before .before .before .is-idle .ensures) _ (c .before .before .before .before .before .before .before .before .if1 .taken) (omega arith)
-    (c .before .before .before .started .ensures ∙ rw (c .before .before .before .before .job-with .ensures)) in
-    answered (a .bytes .now) (a .room .now) _ _ _ _ e (c .before .r .given .1) refl
-
-returns-5 : tie.Need-returns-5
-returns-5 c =
     let a = c .before .before .before .before .args in write-busy (a .self) (a .tid) (a .when) (a .index) (a .sub-index) (a .bytes .now) (a .room .now) _ (c .before .is-idle .ensures) (c .if1 .left)
 
 pub start-write-job-spec : {M : Type 1} → statement M
@@ -46,10 +37,7 @@ start-write-job-spec =
     (λ c. search needs)
     (λ c κs. search needs)
     (λ c κs. search needs)
-    (λ c. search needs)
     (λ c κs. search needs)
     (λ c. search needs)
     returns-3
-    (λ c. search needs)
-    returns-4
-    returns-5)
+    returns-4)

@@ -3,7 +3,6 @@
 //! A frame is what the client sends or receives: the sequence header, then the command. The bytes are
 //! read by the proved codec; this crate only finds words for what it answers.
 
-mod hex;
 mod words;
 
 use ostelumiv::Refusal;

@@ -1,7 +1,6 @@
 //! A frame in words: the sequence header, the command, and what the command's payload asks for or
 //! carries.
 
-use crate::hex;
 use ostelumiv::{
     CommandId, CommandLayerHeader, ReadByIndexRequest, ReadMultipleParamRequest, Refusal,
     SdoCommand, Segmentation, SequenceLayerHeader, WriteAllByIndexRequest, WriteByIndexRequest,

@@ -1,7 +1,6 @@
 //! Frames of every kind, with the words expected for each written out.
 
 use super::frame;
-use crate::hex;
 use ostelumiv::Refusal;
 
 /// The sequence header before each command here, and its words.

@@ -1,4 +1,4 @@
-//! Bytes as hex, read and written.
+//! Bytes as hex, read and written: what the display and the bench tools share.
 
 use std::fmt::Write;
 
@@ -6,13 +6,28 @@ use std::fmt::Write;
 /// is anything else.
 pub fn bytes(text: &[u8]) -> Option<Vec<u8>> {
     let mut bytes = Vec::with_capacity(text.len() / 2);
-    for group in text.split(u8::is_ascii_whitespace) {
-        for pair in group.chunks(2) {
-            let [high, low] = pair else { return None };
-            bytes.push(digit(*high)? * 16 + digit(*low)?);
-        }
+    for word in text.split(u8::is_ascii_whitespace) {
+        bytes.extend(word_bytes(word).ok()?);
     }
     Some(bytes)
+}
+
+/// The bytes of one word, or the place in it where a digit was missing: that of another character,
+/// or the end where the last byte has one digit only.
+pub fn word_bytes(word: &[u8]) -> Result<Vec<u8>, usize> {
+    if let Some(place) = word
+        .iter()
+        .position(|&character| digit(character).is_none())
+    {
+        return Err(place);
+    }
+    let pairs = word.chunks_exact(2);
+    if !pairs.remainder().is_empty() {
+        return Err(word.len());
+    }
+    Ok(pairs
+        .filter_map(|pair| Some(digit(pair[0])? * 16 + digit(pair[1])?))
+        .collect())
 }
 
 fn digit(character: u8) -> Option<u8> {
@@ -31,7 +46,7 @@ pub fn text(bytes: &[u8]) -> String {
 
 #[cfg(test)]
 mod tests {
-    use super::{bytes, text};
+    use super::{bytes, text, word_bytes};
 
     #[test]
     fn read() {
@@ -45,6 +60,16 @@ mod tests {
         for line in ["0", "012", "0 1", "0g", "+1", "0x01", "01,02"] {
             assert_eq!(bytes(line.as_bytes()), None, "{line}");
         }
+    }
+
+    #[test]
+    fn the_place_of_a_missing_digit() {
+        assert_eq!(word_bytes(b"00fF"), Ok(vec![0x00, 0xFF]));
+        assert_eq!(word_bytes(b""), Ok(vec![]));
+        assert_eq!(word_bytes(b"0O"), Err(1));
+        assert_eq!(word_bytes(b"0104 "), Err(4));
+        assert_eq!(word_bytes(b"01040"), Err(5));
+        assert_eq!(word_bytes(b"x"), Err(0));
     }
 
     #[test]

@@ -1,0 +1,104 @@
+//! The program `trace`: its arguments, its standard streams and its exit status.
+
+use std::env;
+use std::io::{self, ErrorKind, Read, Write};
+use std::process::ExitCode;
+use trace::{MOST_RECORDS, RECORD};
+
+const USAGE: &str = "\
+usage: trace write < LINES > RECORDS
+       trace read  < RECORDS > LINES
+
+Turns readable lines into the replay's records of 32 bytes, and records into lines, one a record, so
+that line n is the record that the replay numbers n. A line has one operation:
+
+  write NODE OBJECT DATA        start a write, e.g. write 5 2100:01 0104
+  read NODE OBJECT              start a read
+  dcf NODE DATA                 start a concise DCF, its bytes given, or its count and entries:
+  dcf NODE count N OBJECT=DATA ...
+  ask                           what is to be sent next?
+  tick                          has a deadline passed?
+  reply NODE SEQUENCE FLAGS DATA
+                                a reply from a node
+  gather DATA                   data for the next write, dcf or reply, ahead of its own
+  record DATA                   any 32 bytes, as they are
+  short DATA                    1 to 31 bytes, as they are, in the last line
+
+NODE is a number from 0 to 255. OBJECT is index and sub-index in hex, 4 and 2 digits. DATA is hex, two
+digits a byte, with spaces between bytes where one likes, or nothing; what one record has no place
+for goes into gather records ahead of it. Every line but the last two may end in `at` and a time in
+microseconds (or in ms or s: at 15s); without it the last time given goes on, at first 0. Blank lines,
+and what comes after #, are passed over.
+
+SEQUENCE is `answers N number M STATES`: N is the number of the command that is answered, M the
+reply's own, both 0 to 63. STATES is init (both Initialization), none (both NoConnection), or two of
+them, on receive none, init, valid or error, on send none, init, valid or request, as in
+valid/request; without it both are valid. Or it is `seq XX XX`, octets 0 and 1 in hex.
+
+FLAGS is, in this order and each if wanted, a kind (expedited, initiate, segment or complete; without
+it expedited), response, and abort, with its code of 8 hex digits, as in abort 05040000. An abort
+with other data has the word data before them. Or it is `flags XX`, the octet in hex.
+
+exit status: 0 done; 1 a line could not be taken: each is told, and nothing is written; 2 wrong
+arguments or a failing stream
+";
+
+const NOT_TAKEN: u8 = 1;
+const FAILED: u8 = 2;
+
+fn main() -> ExitCode {
+    let arguments: Vec<_> = env::args_os().skip(1).collect();
+    let answer = match arguments.as_slice() {
+        [only] if only == "write" => write(),
+        [only] if only == "read" => read(),
+        [only] if only == "--help" => put(USAGE.as_bytes()),
+        _ => {
+            eprint!("{USAGE}");
+            return ExitCode::from(FAILED);
+        }
+    };
+    match answer {
+        Ok(status) => status,
+        // Whoever reads the output has seen enough of it.
+        Err(error) if error.kind() == ErrorKind::BrokenPipe => ExitCode::SUCCESS,
+        Err(error) => {
+            eprintln!("trace: {error}");
+            ExitCode::from(FAILED)
+        }
+    }
+}
+
+fn write() -> io::Result<ExitCode> {
+    match trace::write(&input()?) {
+        Ok(records) => {
+            let count = records.len().div_ceil(RECORD);
+            if count > MOST_RECORDS {
+                eprintln!("trace: {count} records; the replay reads the first {MOST_RECORDS}");
+            }
+            put(&records)
+        }
+        Err(all_bad) => {
+            for bad in all_bad {
+                eprintln!("trace: {bad}");
+            }
+            Ok(ExitCode::from(NOT_TAKEN))
+        }
+    }
+}
+
+fn read() -> io::Result<ExitCode> {
+    put(trace::read(&input()?).as_bytes())
+}
+
+fn input() -> io::Result<Vec<u8>> {
+    let mut bytes = Vec::new();
+    io::stdin().lock().read_to_end(&mut bytes)?;
+    Ok(bytes)
+}
+
+fn put(bytes: &[u8]) -> io::Result<ExitCode> {
+    let mut output = io::stdout().lock();
+    output.write_all(bytes)?;
+    output.flush()?;
+    Ok(ExitCode::SUCCESS)
+}

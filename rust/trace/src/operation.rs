@@ -1,0 +1,108 @@
+//! What a line asks for: its operation and all of its data.
+
+use crate::fields::{self, data, node, object, octet, DATA, TIME};
+use crate::notation::{self, ABORT, KIND_UNIT, RESPONSE, USUAL_STATES};
+use crate::record::Operation;
+use crate::words::{Fault, Words};
+
+const OPERATIONS: &str =
+    "an operation: write, read, dcf, reply, tick, ask, gather (or record, short)";
+const AFTER_SEQUENCE: &str = "states such as 'init', a kind ('expedited', 'initiate', 'segment', \
+    'complete'), 'response', 'abort', data in hex or 'at', in this order and each if wanted";
+
+/// An operation and all its data, up to the time or the end of the line.
+pub fn operation(words: &mut Words) -> Result<(Operation, Vec<u8>), Fault> {
+    if words.take("write") {
+        let (node, object) = (node(words)?, object(words)?);
+        Ok((Operation::Write { node, object }, data(words, DATA)?))
+    } else if words.take("read") {
+        let (node, object) = (node(words)?, object(words)?);
+        Ok((Operation::Read { node, object }, vec![]))
+    } else if words.take("dcf") {
+        let node = node(words)?;
+        Ok((Operation::Dcf { node }, dcf(words)?))
+    } else if words.take("reply") {
+        reply(words)
+    } else if words.take("tick") {
+        Ok((Operation::Tick, vec![]))
+    } else if words.take("ask") {
+        Ok((Operation::Ask, vec![]))
+    } else if words.take("gather") {
+        Ok((Operation::Gather, data(words, DATA)?))
+    } else {
+        Err(words.fault(OPERATIONS))
+    }
+}
+
+/// The bytes of a concise DCF, given as they are or as count and entries.
+fn dcf(words: &mut Words) -> Result<Vec<u8>, Fault> {
+    if !words.take("count") {
+        return data(
+            words,
+            "'count' and entries, data in hex, 'at' or the end of the line",
+        );
+    }
+    let count: u32 = words.expect("the number of entries, below 2^32", fields::decimal)?;
+    let mut dcf = count.to_le_bytes().to_vec();
+    while !words.at_end() && !words.is(TIME) {
+        dcf.extend(fields::entry(words)?);
+    }
+    Ok(dcf)
+}
+
+fn reply(words: &mut Words) -> Result<(Operation, Vec<u8>), Fault> {
+    let node = node(words)?;
+    let sequence = sequence(words)?;
+    let (flags, data) = if words.take("flags") {
+        (octet(words)?, data(words, DATA)?)
+    } else {
+        flags_and_data(words)?
+    };
+    let operation = Operation::Reply {
+        node,
+        sequence,
+        flags,
+    };
+    Ok((operation, data))
+}
+
+/// The octets 0 and 1 of the sequence header, given as they are or in words.
+fn sequence(words: &mut Words) -> Result<[u8; 2], Fault> {
+    if words.take("seq") {
+        return Ok([octet(words)?, octet(words)?]);
+    }
+    if !words.take("answers") {
+        return Err(words.fault("'answers' and a sequence number, or 'seq' and two octets"));
+    }
+    let answers = fields::number(words)?;
+    if !words.take("number") {
+        return Err(words.fault("'number' and the reply's own sequence number"));
+    }
+    let number = fields::number(words)?;
+    let [receive, send] = words.take_as(notation::states).unwrap_or(USUAL_STATES);
+    Ok([
+        notation::octet(answers, receive),
+        notation::octet(number, send),
+    ])
+}
+
+/// The flags of a reply in words, and its data, which begin with the code where an abort has one.
+fn flags_and_data(words: &mut Words) -> Result<(u8, Vec<u8>), Fault> {
+    let mut flags = words.take_as(notation::kind).unwrap_or(0) * KIND_UNIT;
+    if words.take("response") {
+        flags |= RESPONSE;
+    }
+    if !words.take("abort") {
+        return Ok((flags, data(words, AFTER_SEQUENCE)?));
+    }
+    flags |= ABORT;
+    let mut payload = vec![];
+    if let Some(code) = words.take_as(fields::octets::<4>) {
+        payload.extend(u32::from_be_bytes(code).to_le_bytes());
+    } else if !words.take("data") && !words.at_end() && !words.is(TIME) {
+        let expected = "an abort code of 8 hex digits, 'data', 'at' or the end of the line";
+        return Err(words.fault(expected));
+    }
+    payload.extend(data(words, DATA)?);
+    Ok((flags, payload))
+}

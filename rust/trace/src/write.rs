@@ -1,0 +1,115 @@
+//! Lines to records.
+
+use crate::fields;
+use crate::operation::operation;
+use crate::record::{self, Operation, Record, MOST_DATA, RECORD};
+use crate::words::{Fault, Words};
+use std::fmt;
+use std::ops::RangeInclusive;
+
+/// What some editors put in front of a text.
+const BYTE_ORDER_MARK: &[u8] = b"\xEF\xBB\xBF";
+
+/// A line that could not be taken.
+#[derive(Debug, PartialEq, Eq)]
+pub struct Bad {
+    pub line: usize,
+    pub fault: Fault,
+}
+
+impl fmt::Display for Bad {
+    fn fmt(&self, f: &mut fmt::Formatter<'_>) -> fmt::Result {
+        write!(f, "line {}, {}", self.line, self.fault)
+    }
+}
+
+/// The records of a text, or every line of it that could not be taken.
+pub fn write(text: &[u8]) -> Result<Vec<u8>, Vec<Bad>> {
+    let text = text.strip_prefix(BYTE_ORDER_MARK).unwrap_or(text);
+    let mut writer = Writer::default();
+    let mut bad = Vec::new();
+    for (place, line) in text.split(|&byte| byte == b'\n').enumerate() {
+        let mut words = Words::of(line);
+        if words.at_end() {
+            continue;
+        }
+        if let Err(fault) = writer.line(&mut words) {
+            let line = place + 1;
+            bad.push(Bad { line, fault });
+        }
+    }
+    if bad.is_empty() {
+        Ok(writer.trace)
+    } else {
+        Err(bad)
+    }
+}
+
+#[derive(Default)]
+struct Writer {
+    trace: Vec<u8>,
+    /// The last time given, which goes on.
+    time: u64,
+    /// Whether a short record was written, after which nothing can come.
+    short: bool,
+}
+
+impl Writer {
+    fn line(&mut self, words: &mut Words) -> Result<(), Fault> {
+        if self.short {
+            return Err(words.fault("nothing after a short record"));
+        }
+        if words.take("record") {
+            return self.raw(words, RECORD..=RECORD, "64 hex digits");
+        }
+        if words.take("short") {
+            self.raw(words, 1..=RECORD - 1, "2 to 62 hex digits")?;
+            self.short = true;
+            return Ok(());
+        }
+        let (operation, data) = operation(words)?;
+        if let Some(time) = fields::time(words)? {
+            self.time = time;
+        }
+        self.put(operation, &data);
+        Ok(())
+    }
+
+    /// Bytes as they are. They leave the time that goes on.
+    fn raw(
+        &mut self,
+        words: &mut Words,
+        lengths: RangeInclusive<usize>,
+        expected: &str,
+    ) -> Result<(), Fault> {
+        let start = words.clone();
+        let bytes = fields::data(words, expected)?;
+        if !lengths.contains(&bytes.len()) {
+            return Err(start.fault_found(expected, format!("{} digits", bytes.len() * 2)));
+        }
+        if !words.at_end() {
+            return Err(words.fault("the end of the line"));
+        }
+        self.trace.extend(bytes);
+        Ok(())
+    }
+
+    /// The record of an operation, and ahead of it those that gather what it has no place for.
+    fn put(&mut self, operation: Operation, data: &[u8]) {
+        let own = data.len().saturating_sub(1) / MOST_DATA * MOST_DATA;
+        let (gathered, own) = data.split_at(own);
+        for part in gathered.chunks(MOST_DATA) {
+            self.put_one(Operation::Gather, part);
+        }
+        self.put_one(operation, own);
+    }
+
+    fn put_one(&mut self, operation: Operation, data: &[u8]) {
+        let record = Record {
+            operation,
+            time: self.time,
+            data: data.to_vec(),
+        };
+        self.trace.extend(record::bytes_of(&record));
+    }
+}

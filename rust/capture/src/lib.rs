@@ -1,0 +1,39 @@
+//! What the client sent, as a capture file: the lines of the replay, of which every command that went
+//! out becomes a POWERLINK frame. So a dissector that was written elsewhere can look at our bytes.
+
+mod frame;
+mod line;
+mod pcap;
+
+use line::Line;
+use std::fmt;
+
+/// A line that the replay does not print.
+#[derive(Debug, PartialEq, Eq)]
+pub struct Bad {
+    pub line: usize,
+    pub expected: &'static str,
+}
+
+impl fmt::Display for Bad {
+    fn fmt(&self, f: &mut fmt::Formatter<'_>) -> fmt::Result {
+        write!(f, "line {}: expected {}", self.line, self.expected)
+    }
+}
+
+/// The capture file of the replay's lines, or the first line that is none.
+pub fn capture(lines: &[u8]) -> Result<Vec<u8>, Bad> {
+    let mut file = pcap::start();
+    for (place, text) in lines.split(|&byte| byte == b'\n').enumerate() {
+        if text.trim_ascii().is_empty() {
+            continue;
+        }
+        let line = place + 1;
+        let bad = |expected| Bad { line, expected };
+        let Line { record, sent } = line::read(text).map_err(bad)?;
+        if let Some((node, bytes)) = sent {
+            pcap::put(&mut file, record, &frame::frame(node, &bytes));
+        }
+    }
+    Ok(file)
+}

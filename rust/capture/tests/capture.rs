@@ -1,0 +1,91 @@
+//! The capture of document 01's run, octet by octet; frames at both ends of their lengths; lines that
+//! are none of the replay's.
+
+use capture::{capture, Bad};
+
+const DOCUMENT_01: &str = "\
+1 1 0 - - -
+2 6 0 5 FC0100000001000000000000 -
+3 4 0 - - -
+4 6 0 5 020700000001000106000000002101000104 -
+5 4 0 - - 5:C:1
+";
+
+/// Magic, version 2.4, two zeros, longest frame, Ethernet.
+const FILE_HEAD: &str = "D4C3B2A1 0200 0400 00000000 00000000 FFFF0000 01000000";
+/// Destination, source, type of an Ethernet frame.
+const ETHERNET: &str = "01111E000004 0200000000F0 88AB";
+
+fn bytes(hex: &str) -> Vec<u8> {
+    hex::bytes(hex.as_bytes()).expect("the test's own hex")
+}
+
+fn captured(lines: &str) -> Vec<u8> {
+    capture(lines.as_bytes()).unwrap_or_else(|bad| panic!("{bad}"))
+}
+
+#[test]
+fn document_01s_run() {
+    let mut expected = bytes(FILE_HEAD);
+    for (record, sent, padding) in [
+        ("02000000", "FC010000 0001000000000000", 30),
+        ("04000000", "02070000 0001000106000000 00210100 0104", 24),
+    ] {
+        expected.extend(bytes(&format!("{record} 00000000 3C000000 3C000000")));
+        expected.extend(bytes(&format!("{ETHERNET} 06 05 F0 05 {sent}")));
+        expected.extend(vec![0; padding]);
+    }
+    assert_eq!(captured(DOCUMENT_01), expected);
+}
+
+#[test]
+fn the_length_of_a_frame() {
+    // 18 bytes come before what was sent, 24 and 16 more before the frame.
+    for (sent, frame) in [(41, 60), (42, 60), (43, 61), (1468, 1486), (1496, 1514)] {
+        let line = format!("65535 6 0 255 {} -\n", "5A".repeat(sent));
+        let file = captured(&line);
+        assert_eq!(file.len(), 24 + 16 + frame);
+        assert_eq!(file[24..28], [0xFF, 0xFF, 0, 0]);
+        assert_eq!(file[32..36], u32::to_le_bytes(frame as u32));
+        assert_eq!(file[40 + 15], 255);
+        assert!(file[40 + 18..][..sent].iter().all(|&byte| byte == 0x5A));
+    }
+}
+
+#[test]
+fn lines_that_send_nothing() {
+    for lines in [
+        "",
+        "\n",
+        "1 - 11 - - -\n",
+        "1 200 10 - - -",
+        "7 6 0 - - 1:C:0,2:X:9\n",
+    ] {
+        assert_eq!(captured(lines), bytes(FILE_HEAD));
+    }
+}
+
+#[test]
+fn lines_that_are_none_of_the_replays() {
+    let fields = "six fields: record number, operation, refusal, node, bytes, ends";
+    for (text, expected) in [
+        ("1 6 0 5 FC01", fields),
+        ("1 6 0 5 FC01 - -", fields),
+        ("x 6 0 5 FC01 -", "a record number first"),
+        ("1 x 0 5 FC01 -", "an operation second"),
+        ("1 6 - 5 FC01 -", "a refusal or 0 third"),
+        ("1 6 0 - FC01 -", "a node with bytes, or neither"),
+        ("1 6 0 5 - -", "a node with bytes, or neither"),
+        ("1 6 0 256 FC01 -", "a node from 0 to 255 fourth"),
+        ("1 6 0 5 FC0 -", "bytes in hex fifth"),
+        ("1 6 0 5 FCx1 -", "bytes in hex fifth"),
+    ] {
+        let lines = format!("{DOCUMENT_01}\n{text}\n");
+        let line = 7;
+        assert_eq!(capture(lines.as_bytes()), Err(Bad { line, expected }));
+    }
+    let long = format!("1 6 0 5 {} -", "00".repeat(1_497));
+    let expected = "no more bytes than an Ethernet frame takes";
+    assert_eq!(capture(long.as_bytes()), Err(Bad { line: 1, expected }));
+    assert!(capture(b"1 6 0 5 \xFF -").is_err());
+}

@@ -1,6 +1,6 @@
 # What the project is built and tested by. `make test` is the gate.
 
-.PHONY: test lib display bench
+.PHONY: test lib display trace dissect bench
 
 test:
 	bash .ci/run
@@ -13,6 +13,19 @@ lib:
 display: lib
 	cd rust && cargo build --release --offline --quiet -p display
 	@rust/target/release/display
+
+# Readable lines on standard input to the replay's records on standard output; with DO=read, records to lines (docs/TRACES.md).
+trace: DO = write
+trace:
+	@cd rust && cargo build --release --offline --quiet -p trace
+	@rust/target/release/trace $(DO)
+
+# What Wireshark's dissector reads in the frames that the client sends, held to what was sent: those of the file that LINES names, which
+# has lines of the replay; without it those of traces/ through target/bin/replay. An exported LINES is the terminal's height, not a file.
+dissect: FILES = $(if $(filter command,$(firstword $(origin LINES))),$(LINES))
+dissect:
+	@cd rust && cargo build --release --offline --quiet -p trace -p capture
+	@tests/dissect $(FILES)
 
 # Instructions of our codec and of the repository's, by callgrind. Debian's package valgrind is installed if it is not there.
 bench: lib

@@ -13,7 +13,7 @@ impl Rng {
 
     /// Once in so many times.
     fn once_in(&mut self, times: u8) -> bool {
-        self.byte() % times == 0
+        self.byte().is_multiple_of(times)
     }
 
     fn fill(&mut self, bytes: &mut [u8]) {

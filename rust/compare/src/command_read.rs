@@ -2,9 +2,9 @@
 
 use crate::answers::{ours, theirs};
 use crate::layout::{header_bytes, HEADER, INITIATE_HEADER};
-use crate::rng::Rng;
 use crate::tally::{Hex, Report, Tally};
 use ostelumiv::{CommandId, CommandLayerHeader, SdoCommand, Segmentation};
+use rng::Rng;
 use std::ops::RangeInclusive;
 
 /// A command as it was read: transaction, response, abort, segmentation, command number; then

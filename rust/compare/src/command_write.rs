@@ -3,13 +3,13 @@
 
 use crate::answers::{ours, theirs};
 use crate::layout::{header_bytes, INITIATE_HEADER};
-use crate::rng::Rng;
 use crate::tally::{Report, Tally};
 use oracle::PowerlinkError;
 use ostelumiv::{
     command_write_numbers, CommandId, CommandLayerHeader, CommandNumbers, Refusal, SdoCommand,
     Segmentation,
 };
+use rng::Rng;
 
 /// A write of ours: of a command, or of numbers that need not name one.
 type OurWrite = fn(&CommandNumbers, &[u8], &mut [u8]) -> Result<usize, Refusal>;

@@ -3,9 +3,9 @@
 
 use crate::answers::ours;
 use crate::drive::sent_entries;
-use crate::rng::Rng;
 use crate::tally::{Hex, Report, Tally};
 use ostelumiv::ConciseDcf;
+use rng::Rng;
 
 /// What each entry is sent as, and whether that is all that the DCF counts.
 type Outcome = Result<(Vec<Vec<u8>>, bool), u8>;

@@ -21,8 +21,6 @@ mod layout;
 #[cfg(has_oracle)]
 mod request;
 #[cfg(has_oracle)]
-mod rng;
-#[cfg(has_oracle)]
 mod sequence;
 #[cfg(has_oracle)]
 mod tally;

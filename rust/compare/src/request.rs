@@ -1,8 +1,8 @@
 //! The request readers: every length up to 20, and drawn lengths up to 2,000.
 
 use crate::answers::{ours, theirs};
-use crate::rng::Rng;
 use crate::tally::{Hex, Report, Tally};
+use rng::Rng;
 
 /// How many payloads of each length up to 20 are drawn, and how many longer ones.
 const OF_EACH_LENGTH: usize = 2_000;

@@ -1,9 +1,9 @@
 //! The sequence header, read and written.
 
 use crate::answers::{ours, theirs};
-use crate::rng::Rng;
 use crate::tally::{Hex, Report, Tally};
 use oracle::{PowerlinkError, ReceiveConnState, SendConnState};
+use rng::Rng;
 
 /// Receive number, receive state, send number, send state.
 type Numbers = [u8; 4];

@@ -1,6 +1,6 @@
 //! Counting what was compared, and telling what differs.
 
-use crate::rng::Rng;
+use rng::Rng;
 use std::fmt::Debug;
 use std::process::ExitCode;
 

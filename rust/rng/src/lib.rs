@@ -9,6 +9,7 @@ impl Rng {
     }
 
     /// The generator xorshift64*.
+    #[allow(clippy::should_implement_trait)]
     pub fn next(&mut self) -> u64 {
         self.0 ^= self.0 >> 12;
         self.0 ^= self.0 << 25;
@@ -32,5 +33,10 @@ impl Rng {
 
     pub fn bytes(&mut self, len: usize) -> Vec<u8> {
         (0..len).map(|_| self.byte()).collect()
+    }
+
+    /// True once in `times`, on the whole.
+    pub fn one_in(&mut self, times: usize) -> bool {
+        self.below(times) == 0
     }
 }

@@ -1,0 +1,113 @@
+//! Standard input to standard output, in the two forms: document 01's lines alone, as fast as the
+//! repository allows, and with a state line after each.
+
+use crate::client::{Answer, Client};
+use crate::gather::{Gather, Turn};
+use crate::line;
+use crate::parameters::{self, PARAMETER_BYTES};
+use crate::record::{Record, RecordBytes, MOST_RECORDS, RECORD_BYTES};
+use crate::refusal::Refusal;
+use crate::watched::Watched;
+use oracle::ObjectDictionary;
+use std::io::{self, Read, Write};
+
+/// How much is read at once, and how much is gathered before it is written.
+const PIECE: usize = 1 << 16;
+
+/// What the input has next.
+enum Next<'a> {
+    Record(&'a RecordBytes),
+    /// It ends inside a record.
+    Short,
+}
+
+/// Document 01's lines of a trace, with both parameters absent. Nothing reads the state here but a
+/// walk whose deadline would not fit.
+pub fn plain(input: impl Read, output: impl Write) -> io::Result<()> {
+    let mut client = Client::new(ObjectDictionary::default());
+    let mut gather = Gather::default();
+    run(input, output, |number, next, lines| {
+        let (operation, outcome) = match next {
+            Next::Short => (None, Err(Refusal::ShortRecord)),
+            Next::Record(bytes) => {
+                let outcome = match gather.turn(Record::read(bytes)) {
+                    Turn::Refused(refusal) => Err(refusal),
+                    Turn::Gathered => Ok(Answer::default()),
+                    Turn::Call(call) => client.call(call),
+                };
+                (Some(bytes[0]), outcome)
+            }
+        };
+        line::put_line(lines, number, operation, &outcome);
+        Ok(())
+    })
+}
+
+/// Two lines a record. The input begins with the parameters.
+pub fn with_state(mut input: impl Read, output: impl Write) -> io::Result<()> {
+    let mut head = [0; PARAMETER_BYTES];
+    input.read_exact(&mut head)?;
+    let mut watched = Watched::new(parameters::read(&head));
+    run(input, output, |_, next, lines| match next {
+        Next::Short => {
+            watched.short(lines);
+            Ok(())
+        }
+        Next::Record(bytes) => {
+            let step = watched.step(bytes, lines);
+            step.map(|_| ()).map_err(io::Error::other)
+        }
+    })
+}
+
+/// Hands over each record with its number, and writes the lines that are put.
+fn run(
+    mut input: impl Read,
+    mut output: impl Write,
+    mut take: impl FnMut(u32, Next, &mut Vec<u8>) -> io::Result<()>,
+) -> io::Result<()> {
+    let mut lines = Vec::with_capacity(2 * PIECE);
+    each_record(&mut input, |number, next| {
+        take(number, next, &mut lines)?;
+        if lines.len() >= PIECE {
+            output.write_all(&lines)?;
+            lines.clear();
+        }
+        Ok(())
+    })?;
+    output.write_all(&lines)?;
+    output.flush()
+}
+
+fn each_record(
+    input: &mut impl Read,
+    mut take: impl FnMut(u32, Next) -> io::Result<()>,
+) -> io::Result<()> {
+    let mut piece = vec![0; PIECE];
+    let mut filled = 0;
+    let mut number = 0;
+    loop {
+        let read = match input.read(&mut piece[filled..]) {
+            Err(error) if error.kind() == io::ErrorKind::Interrupted => continue,
+            read => read?,
+        };
+        if read == 0 {
+            return match filled {
+                0 => Ok(()),
+                _ => take(number + 1, Next::Short),
+            };
+        }
+        filled += read;
+        let (records, rest) = piece[..filled].as_chunks::<RECORD_BYTES>();
+        for record in records {
+            number += 1;
+            take(number, Next::Record(record))?;
+            if number == MOST_RECORDS {
+                return Ok(());
+            }
+        }
+        let begin = filled - rest.len();
+        piece.copy_within(begin..filled, 0);
+        filled -= begin;
+    }
+}

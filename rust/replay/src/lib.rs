@@ -1,4 +1,4 @@
-//! The repository's manager replays traces (document 01, "Replay").
+//! The repository's manager replays traces (document 01, "Replay"), and a generator makes them.
 //!
 //! `client` is the repository's manager with document 01's additions around it, and says which answer
 //! comes from where. Where the repository's files are not at hand, nothing is here.
@@ -6,16 +6,21 @@
 #![cfg(has_oracle)]
 
 mod client;
+mod counts;
+pub mod cover;
 mod dcf;
 mod debug_text;
 mod end;
 mod gather;
+pub mod generate;
 mod ledger;
 mod line;
 mod mirror;
+mod observe;
 mod parameters;
 mod record;
 mod refusal;
+pub mod rules;
 pub mod stream;
 mod sum;
 mod table;

@@ -1,18 +1,23 @@
-//! The repository's manager as a replay. USAGE has the modes.
+//! The repository's manager as a replay, and drawn traces for it. USAGE has the modes.
 
 use std::env;
 use std::process::ExitCode;
 
 const USAGE: &str = "\
 usage: replay_oracle MODE
-  plain  a trace on standard input, document 01's lines on standard output
-  state  the same with ten bytes of parameters ahead of the trace, and a state line after each line";
+  plain                   a trace on standard input, document 01's lines on standard output
+  state                   the same with ten bytes of parameters ahead of the trace, and a state line
+                          after each line
+  cover RECORDS [SEED]    the generator and the oracle alone: how often each rule is reached
+  trace SEED | longest    the drawn trace of a seed, or the one of 65,535 records and more, with
+                          the parameters ahead";
 
 fn main() -> ExitCode {
     let arguments: Vec<String> = env::args().skip(1).collect();
     let arguments: Vec<&str> = arguments.iter().map(String::as_str).collect();
     match run(&arguments) {
-        Ok(()) => ExitCode::SUCCESS,
+        Ok(true) => ExitCode::SUCCESS,
+        Ok(false) => ExitCode::FAILURE,
         Err(message) => {
             eprintln!("{message}");
             ExitCode::FAILURE
@@ -20,21 +25,41 @@ fn main() -> ExitCode {
     }
 }
 
+/// Answers whether all is well.
 #[cfg(has_oracle)]
-fn run(arguments: &[&str]) -> Result<(), String> {
-    use replay_oracle::stream;
-    use std::io;
+fn run(arguments: &[&str]) -> Result<bool, String> {
+    use replay_oracle::{cover, generate, stream};
+    use std::io::{self, Write};
 
+    let output = || io::stdout().lock();
     let done = match arguments {
-        ["plain"] => stream::plain(io::stdin().lock(), io::stdout().lock()),
-        ["state"] => stream::with_state(io::stdin().lock(), io::stdout().lock()),
+        ["plain"] => stream::plain(io::stdin().lock(), output()),
+        ["state"] => stream::with_state(io::stdin().lock(), output()),
+        ["cover", records] => write!(output(), "{}", cover::table(number(records)?, 0)?),
+        ["cover", records, seed] => {
+            let table = cover::table(number(records)?, number(seed)?)?;
+            write!(output(), "{table}")
+        }
+        ["trace", which] => {
+            let run = match *which {
+                "longest" => generate::longest()?,
+                seed => generate::drawn(number(seed)?)?,
+            };
+            output().write_all(&run.with_parameters())
+        }
         _ => return Err(USAGE.into()),
     };
-    done.map_err(|error| error.to_string())
+    done.map(|()| true).map_err(|error| error.to_string())
+}
+
+#[cfg(has_oracle)]
+fn number<T: std::str::FromStr>(text: &str) -> Result<T, String> {
+    text.parse()
+        .map_err(|_| format!("{text} is no number\n{USAGE}"))
 }
 
 #[cfg(not(has_oracle))]
-fn run(_: &[&str]) -> Result<(), String> {
+fn run(_: &[&str]) -> Result<bool, String> {
     Err(format!(
         "not run: the repository's client was not found; OSTELUMIV_ORACLE names its folder\n{USAGE}"
     ))

@@ -1,0 +1,143 @@
+//! Traces that know the state, each the same for the same seed.
+
+mod draw;
+mod replies;
+mod scenes;
+mod stage;
+mod steps;
+
+use crate::counts::Counts;
+use crate::parameters;
+use crate::record::MOST_RECORDS;
+use oracle::ObjectDictionary;
+use rng::Rng;
+use stage::Stage;
+use steps::Theme;
+
+/// How long most traces may become; a step that gathers bytes may go past it.
+const MOST_DRAWN: usize = 1_500;
+
+/// A trace, and what the oracle says to it.
+pub struct Run {
+    pub parameters: ObjectDictionary,
+    pub records: Vec<u8>,
+    /// Two lines a record.
+    pub lines: Vec<u8>,
+    pub counts: Counts,
+}
+
+impl Run {
+    /// The trace as the test program with states takes it.
+    pub fn with_parameters(&self) -> Vec<u8> {
+        let mut input = parameters::bytes(&self.parameters).to_vec();
+        input.extend_from_slice(&self.records);
+        input
+    }
+
+    /// Document 01's lines, without the state lines between them.
+    pub fn plain_lines(&self) -> Vec<u8> {
+        let lines = self.lines.split_inclusive(|byte| *byte == b'\n');
+        let plain = lines.filter(|line| line[0] != b'=');
+        plain.flatten().copied().collect()
+    }
+}
+
+/// The trace of a seed. An error says that the wrapper and the repository do not agree.
+pub fn drawn(seed: u64) -> Result<Run, String> {
+    let mut rng = Rng::new(seed.wrapping_mul(0x9E37_79B9_7F4A_7C15) ^ seed << 1);
+    let parameters = draw::parameters(&mut rng);
+    let mut stage = Stage::new(parameters, rng);
+    stage.loose = true;
+    let most = match stage.rng.below(8) {
+        0 => stage.rng.below(3),
+        _ => stage.rng.below(MOST_DRAWN),
+    };
+    if stage.rng.one_in(5) {
+        play_scenes(&mut stage, most as u32);
+    } else {
+        let theme = stage.rng.pick(&Theme::ALL);
+        draw_steps(&mut stage, theme, most as u32);
+    }
+    finish(stage)
+}
+
+/// The trace that has more records than are read.
+pub fn longest() -> Result<Run, String> {
+    let mut stage = Stage::new(ObjectDictionary::default(), Rng::new(65_535));
+    stage.loose = true;
+    draw_steps(&mut stage, Theme::Mixed, MOST_RECORDS);
+    // Its last record is read; what follows is not.
+    stage.ask();
+    stage.ask();
+    stage.finish(&[6; 9])
+}
+
+/// Document 01's own run first, then every scene but one, with both parameters absent. It ends inside
+/// a record.
+pub fn fixed_replay() -> Result<Run, String> {
+    let mut stage = Stage::new(ObjectDictionary::default(), Rng::new(1));
+    play_all(&mut stage, &scenes::SCENES);
+    play_all(&mut stage, &scenes::LONG_SCENES);
+    scenes::stuck(&mut stage);
+    stage.finish(&[1; 31])
+}
+
+/// Document 01's abort at a timeout first, then the short scenes and the one that was left out above,
+/// with a short timeout and retries 0.
+pub fn fixed_no_retries() -> Result<Run, String> {
+    let parameters = ObjectDictionary {
+        timeout: Some(3),
+        retries: Some(0),
+    };
+    let mut stage = Stage::new(parameters, Rng::new(2));
+    scenes::first_abort(&mut stage);
+    play_all(&mut stage, &scenes::SCENES);
+    scenes::upload_room(&mut stage);
+    scenes::stuck(&mut stage);
+    stage.finish(&[])
+}
+
+/// The short scenes with the longest timeout and a retry, which shows where retries are cleared.
+pub fn fixed_retries() -> Result<Run, String> {
+    let parameters = ObjectDictionary {
+        timeout: Some(u32::MAX),
+        retries: Some(1),
+    };
+    let mut stage = Stage::new(parameters, Rng::new(3));
+    play_all(&mut stage, &scenes::SCENES);
+    stage.finish(&[])
+}
+
+fn play_all(stage: &mut Stage, scenes: &[scenes::Scene]) {
+    for scene in scenes {
+        scene(stage);
+    }
+}
+
+fn draw_steps(stage: &mut Stage, theme: Theme, most: u32) {
+    let nodes = steps::draw_nodes(stage, theme);
+    while stage.records() < most {
+        steps::step(stage, theme, &nodes);
+    }
+}
+
+fn play_scenes(stage: &mut Stage, most: u32) {
+    while stage.records() < most {
+        let scene = match stage.rng.below(24) {
+            0 => scenes::upload_room,
+            1 | 2 => stage.rng.pick(&scenes::LONG_SCENES),
+            _ => stage.rng.pick(&scenes::SCENES),
+        };
+        scene(stage);
+    }
+}
+
+/// Ends the trace, one time in three inside a record.
+fn finish(mut stage: Stage) -> Result<Run, String> {
+    let length = match stage.rng.below(3) {
+        0 => 1 + stage.rng.below(31),
+        _ => 0,
+    };
+    let rest = stage.rng.bytes(length);
+    stage.finish(&rest)
+}

@@ -1,0 +1,65 @@
+//! The drawn traces: every run has the same ones, they reach everything, and the oracle says the same
+//! to them as a stream.
+
+#![cfg(has_oracle)]
+
+use replay_oracle::{cover, generate, stream};
+
+/// So many records reach every rule, with something to spare.
+const ENOUGH: usize = 200_000;
+const SEEDS: std::ops::Range<u64> = 0..60;
+
+#[test]
+fn the_same_seed_gives_the_same_trace() {
+    for seed in SEEDS {
+        let [first, second] = [seed, seed].map(|seed| generate::drawn(seed).unwrap());
+        assert_eq!(first.with_parameters(), second.with_parameters(), "{seed}");
+        assert_eq!(first.lines, second.lines, "{seed}");
+    }
+}
+
+#[test]
+fn other_seeds_give_other_traces() {
+    let traces = SEEDS.map(|seed| generate::drawn(seed).unwrap().with_parameters());
+    let mut traces: Vec<_> = traces.filter(|trace| trace.len() > 500).collect();
+    let drawn = traces.len();
+    assert!(drawn > 40, "{drawn}");
+    traces.sort();
+    traces.dedup();
+    assert_eq!(traces.len(), drawn);
+}
+
+#[test]
+fn every_rule_is_reached() {
+    let counts = cover::each_trace(ENOUGH, 0, |_, _| {}).unwrap();
+    assert_eq!(counts.missing(), []);
+}
+
+#[test]
+fn the_oracle_as_a_stream_says_the_same() {
+    let mut absent = 0;
+    for seed in SEEDS {
+        let run = generate::drawn(seed).unwrap();
+        let mut lines = Vec::new();
+        stream::with_state(&run.with_parameters()[..], &mut lines).unwrap();
+        assert!(lines == run.lines, "seed {seed}");
+        if run.parameters.timeout.is_none() && run.parameters.retries.is_none() {
+            absent += 1;
+            let mut plain = Vec::new();
+            stream::plain(&run.records[..], &mut plain).unwrap();
+            assert!(plain == run.plain_lines(), "seed {seed}");
+        }
+    }
+    assert!(absent > 10, "{absent}");
+}
+
+#[test]
+fn the_longest_trace_stops_at_its_last_record() {
+    let run = generate::longest().unwrap();
+    let lines = String::from_utf8(run.plain_lines()).unwrap();
+    assert_eq!(lines.lines().count(), 65_535);
+    assert!(run.records.len() > 65_535 * 32);
+    let mut plain = Vec::new();
+    stream::plain(&run.records[..], &mut plain).unwrap();
+    assert!(plain == lines.as_bytes());
+}

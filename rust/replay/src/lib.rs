@@ -1,4 +1,5 @@
-//! The repository's manager replays traces (document 01, "Replay"), and a generator makes them.
+//! The repository's manager replays traces (document 01, "Replay"), and our replay programs are held
+//! against it.
 //!
 //! `client` is the repository's manager with document 01's additions around it, and says which answer
 //! comes from where. Where the repository's files are not at hand, nothing is here.
@@ -6,11 +7,13 @@
 #![cfg(has_oracle)]
 
 mod client;
+pub mod compare;
 mod counts;
 pub mod cover;
 mod dcf;
 mod debug_text;
 mod end;
+pub mod fixed;
 mod gather;
 pub mod generate;
 mod ledger;
@@ -18,6 +21,7 @@ mod line;
 mod mirror;
 mod observe;
 mod parameters;
+mod programs;
 mod record;
 mod refusal;
 pub mod rules;

@@ -1,4 +1,4 @@
-//! The repository's manager as a replay, and drawn traces for it. USAGE has the modes.
+//! The repository's manager as a replay, and our replay programs against it. USAGE has the modes.
 
 use std::env;
 use std::process::ExitCode;
@@ -9,8 +9,11 @@ usage: replay_oracle MODE
   state                   the same with ten bytes of parameters ahead of the trace, and a state line
                           after each line
   cover RECORDS [SEED]    the generator and the oracle alone: how often each rule is reached
+  compare RECORDS [SEED]  our replay_state and replay on drawn traces of so many records, from a
+                          first seed on, line by line against the oracle
   trace SEED | longest    the drawn trace of a seed, or the one of 65,535 records and more, with
-                          the parameters ahead";
+                          the parameters ahead
+  fixed FOLDER            writes the sample of traces and lines that runs without Rust";
 
 fn main() -> ExitCode {
     let arguments: Vec<String> = env::args().skip(1).collect();
@@ -28,8 +31,9 @@ fn main() -> ExitCode {
 /// Answers whether all is well.
 #[cfg(has_oracle)]
 fn run(arguments: &[&str]) -> Result<bool, String> {
-    use replay_oracle::{cover, generate, stream};
+    use replay_oracle::{compare, cover, fixed, generate, stream};
     use std::io::{self, Write};
+    use std::path::Path;
 
     let output = || io::stdout().lock();
     let done = match arguments {
@@ -40,6 +44,8 @@ fn run(arguments: &[&str]) -> Result<bool, String> {
             let table = cover::table(number(records)?, number(seed)?)?;
             write!(output(), "{table}")
         }
+        ["compare", records] => return compare::run(number(records)?, 0),
+        ["compare", records, seed] => return compare::run(number(records)?, number(seed)?),
         ["trace", which] => {
             let run = match *which {
                 "longest" => generate::longest()?,
@@ -47,6 +53,7 @@ fn run(arguments: &[&str]) -> Result<bool, String> {
             };
             output().write_all(&run.with_parameters())
         }
+        ["fixed", folder] => write!(output(), "{}", fixed::write(Path::new(folder))?),
         _ => return Err(USAGE.into()),
     };
     done.map(|()| true).map_err(|error| error.to_string())

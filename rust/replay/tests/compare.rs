@@ -1,0 +1,83 @@
+//! The comparison itself, with the oracle in the place of our programs: it passes, and a program that
+//! is wrong, missing or broken fails it.
+
+#![cfg(all(has_oracle, unix))]
+
+use std::fs;
+use std::os::unix::fs::PermissionsExt;
+use std::path::{Path, PathBuf};
+use std::process::Command;
+
+const ORACLE: &str = env!("CARGO_BIN_EXE_replay_oracle");
+
+/// A folder with scripts of these names and commands.
+fn folder(name: &str, scripts: &[(&str, &str)]) -> PathBuf {
+    let folder = Path::new(env!("CARGO_TARGET_TMPDIR")).join(name);
+    fs::create_dir_all(&folder).unwrap();
+    for (script, command) in scripts {
+        let path = folder.join(script);
+        fs::write(&path, format!("#!/bin/sh\n{command}\n")).unwrap();
+        fs::set_permissions(&path, fs::Permissions::from_mode(0o755)).unwrap();
+    }
+    folder
+}
+
+/// Whether the comparison passes, and what it prints.
+fn compared(folder: &Path) -> (bool, String) {
+    let output = Command::new(ORACLE)
+        .args(["compare", "20000"])
+        .env("OSTELUMIV_BIN", folder)
+        .output()
+        .unwrap();
+    let text = String::from_utf8(output.stdout).unwrap();
+    (output.status.success(), text)
+}
+
+#[test]
+fn the_oracle_is_like_itself() {
+    let state = format!("exec {ORACLE} state");
+    let plain = format!("exec {ORACLE} plain");
+    let (passed, text) = compared(&folder(
+        "same",
+        &[("replay_state", &state), ("replay", &plain)],
+    ));
+    assert!(passed, "{text}");
+    assert!(!text.contains("DIFFERENCE"), "{text}");
+    assert!(text.contains("traces that differ: 0"), "{text}");
+}
+
+#[test]
+fn a_wrong_program() {
+    // One invents a delivered figure, the other forgets a record.
+    let state = format!("{ORACLE} state | sed 's/:T:0/:T:1/'");
+    let plain = format!("{ORACLE} plain | sed 's/^300 .*/300 0 0 - - -/'");
+    let (passed, text) = compared(&folder(
+        "wrong",
+        &[("replay_state", &state), ("replay", &plain)],
+    ));
+    assert!(!passed);
+    assert!(text.contains("DIFFERENCE in replay_state, seed "), "{text}");
+    assert!(text.contains("record 300\n"), "{text}");
+}
+
+#[test]
+fn a_program_that_stops_early_or_fails() {
+    let state = format!("{ORACLE} state | head -n 7");
+    let (passed, text) = compared(&folder(
+        "early",
+        &[("replay_state", &state), ("replay", "exit 3")],
+    ));
+    assert!(!passed);
+    assert!(text.contains("record 4\n"), "{text}");
+    assert!(text.contains("ours  no line"), "{text}");
+    assert!(text.contains("exit status: 3"), "{text}");
+}
+
+#[test]
+fn a_missing_program() {
+    let state = format!("exec {ORACLE} state");
+    let (passed, text) = compared(&folder("missing", &[("replay_state", &state)]));
+    assert!(!passed);
+    assert!(text.contains("NOT COMPARED: replay is not in "), "{text}");
+    assert!(!text.contains("NOT COMPARED: replay_state"), "{text}");
+}

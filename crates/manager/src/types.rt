@@ -87,7 +87,8 @@ pub(crate) fn blank() -> SdoClientConnection
     SdoClientConnection::new(0, 0)
 }
 
-pub(crate) fn no_ends() -> Ends
+// No end to report.
+pub fn no_ends() -> Ends
     ensures { λ r. ⌜ r ≡ noEndsOf ⌝ }
 {
     let none = End {

@@ -1,0 +1,12 @@
+-- `trace::text::low` meets its contract: the table is the definition's. Assumes nothing.
+use Rattle.trace.specs.Text.{hexDigits}
+use borrow.Author.Needs.{needs}
+use Rattle.trace.proofs.text.low.Statement.{statement}
+use Rattle.trace.proofs.text.low.Tie as tie
+
+returns : tie.Need-returns
+unfolding hexDigits
+returns c = search needs
+
+pub low-spec : {M : Type 1} → statement M
+low-spec = tie.close (tie.spec (λ c. search needs) (λ c. search needs) returns)

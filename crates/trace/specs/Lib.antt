@@ -1,0 +1,5 @@
+pub mod Line
+pub mod Record
+pub mod Replay
+pub mod Text
+pub mod Types

@@ -1,0 +1,169 @@
+-- Applying a record (document 01, "Replay"). Gather collects up to 4,096 bytes; operations 1, 3 and 4 use these plus their own data and
+-- then empty it, refused by the library or not. A BadRecord leaves it.
+use Prim.Native.Nat.{ℕ, _+_, _/_, _%_, min}
+use mathlib.Core.List.{[], _∷_, _++_}
+use lib.Dec.{ltb}
+use lib.ListN.{length, take}
+use Rattle.laws.specs.Pick.{pick}
+use Rattle.codec.specs.Bytes.{Bytes, placed}
+use Rattle.codec.specs.Command.{headerAt}
+use Rattle.codec.specs.Sequence.{headerOf}
+use Rattle.manager.specs.Calls.{
+  loads,
+  reads,
+  replyDone,
+  replyStore,
+  startDone,
+  startStore,
+  turnOf,
+  turnOutput,
+  writes,
+}
+use Rattle.manager.specs.Sweep.{noEnds}
+use Rattle.trace.specs.Record.{ownData, recordRead}
+use Rattle.trace.specs.Types.{
+  Answer,
+  Applied,
+  CommandId,
+  DataSize,
+  Done,
+  Now,
+  Operation,
+  Parameter,
+  Record,
+  RecordRead,
+  Refusal,
+  SdoClientManager,
+  SdoCommand,
+  SequenceLayerHeader,
+  Turn,
+  Use,
+}
+
+-- how many bytes are gathered, whatever the count says; and so many with a record's own data
+abbrev pub mostGathered : ℕ
+mostGathered = 4096
+
+abbrev pub gatherSize : ℕ
+gatherSize = 4112
+
+abbrev pub heldBytes : ℕ → ℕ
+heldBytes gathered = min gathered mostGathered
+
+-- the bytes that operations 1, 3 and 4 use
+abbrev pub usedBytes : Bytes → ℕ → Bytes → Bytes
+usedBytes gather held own = take held gather ++ own
+
+-- In a reply, bytes 2-3 are sequence octets 0 and 1, command Nil, no data size.
+abbrev pub replyHeader : ℕ → SequenceLayerHeader
+replyHeader index = headerOf (index % 256) (index / 256)
+
+abbrev pub flagged : ℕ → Bytes
+flagged flags = 0 ∷ 0 ∷ flags ∷ 0 ∷ 0 ∷ 0 ∷ 0 ∷ 0 ∷ 0 ∷ 0 ∷ 0 ∷ 0 ∷ []
+
+abbrev pub replyCommand : ℕ → SdoCommand
+replyCommand flags = record { header = headerAt (flagged flags) CommandId.Nil; «data_size» = DataSize.Absent }
+
+-- the library's call with those bytes, and the store after it
+abbrev pub useDone : Use → Record → SdoClientManager → Now → Bytes → Bytes → Done
+useDone Use.Write r m n bytes store = startDone m (r .node) (writes (r .index) (r .«sub_index») bytes) n store
+useDone Use.Dcf r m n bytes store = startDone m (r .node) (loads bytes) n store
+useDone Use.Reply r m n bytes store = replyDone m (r .node) (replyHeader (r .index)) (replyCommand (r .flags)) bytes store
+
+abbrev pub useStore : Use → Record → SdoClientManager → Now → Bytes → Bytes → Bytes
+useStore Use.Write r m n bytes store = startStore m (r .node) (writes (r .index) (r .«sub_index») bytes) n store
+useStore Use.Dcf r m n bytes store = startStore m (r .node) (loads bytes) n store
+useStore Use.Reply r m n bytes store = replyStore m (r .node) (replyHeader (r .index)) (replyCommand (r .flags)) bytes store
+
+-- a call and how many bytes are gathered after it
+abbrev pub andHeld : Done → ℕ → Applied
+andHeld done gathered = record { done = done; gathered = gathered }
+
+-- an answer of the replay's own: the manager as it was, no end
+abbrev pub answeredWith : SdoClientManager → Answer → ℕ → Applied
+answeredWith m answer gathered = andHeld (record { manager = m; answer = answer; ends = noEnds }) gathered
+
+abbrev pub refusedWith : SdoClientManager → Refusal → ℕ → Applied
+refusedWith m r held = answeredWith m (Answer.Refused r) held
+
+-- a gather: 7 past 4,096 bytes
+unfoldable pub gatheredWith : SdoClientManager → ℕ → ℕ → Applied
+gatheredWith m held more =
+    pick (ltb mostGathered (held + more)) (refusedWith m Refusal.NoRoom held) (answeredWith m Answer.Nothing (held + more))
+
+unfoldable pub moreGathered : Bytes → ℕ → Bytes → Bytes
+moreGathered gather held own = pick (ltb mostGathered (held + length own)) gather (placed gather held own)
+
+-- what an operation comes to: its answer and what is gathered after it, the store, the gather's bytes and the output
+abbrev pub performed : Operation → Record → SdoClientManager → ℕ → Now → Bytes → Bytes → Bytes → Bytes → Applied
+performed (Operation.Uses u) r m held n own store gather output =
+    andHeld (useDone u r m n (usedBytes gather held own) store) 0
+performed Operation.Read r m held n own store gather output =
+    andHeld (startDone m (r .node) (reads (r .index) (r .«sub_index»)) n store) held
+performed Operation.Tick r m held n own store gather output = andHeld (turnOf Turn.Ticking m n store output) held
+performed Operation.Ask r m held n own store gather output = andHeld (turnOf Turn.Asking m n store output) held
+performed Operation.Gather r m held n own store gather output = gatheredWith m held (length own)
+
+abbrev pub storeAfter : Operation → Record → SdoClientManager → ℕ → Now → Bytes → Bytes → Bytes → Bytes
+storeAfter (Operation.Uses u) r m held n own store gather = useStore u r m n (usedBytes gather held own) store
+storeAfter Operation.Read r m held n own store gather = store
+storeAfter Operation.Tick r m held n own store gather = store
+storeAfter Operation.Ask r m held n own store gather = store
+storeAfter Operation.Gather r m held n own store gather = store
+
+abbrev pub gatherAfter : Operation → ℕ → Bytes → Bytes → Bytes
+gatherAfter (Operation.Uses u) held own gather = placed gather held own
+gatherAfter Operation.Read held own gather = gather
+gatherAfter Operation.Tick held own gather = gather
+gatherAfter Operation.Ask held own gather = gather
+gatherAfter Operation.Gather held own gather = moreGathered gather held own
+
+abbrev pub outputAfter : Operation → SdoClientManager → Now → Bytes → Bytes → Bytes
+outputAfter (Operation.Uses u) m n store output = output
+outputAfter Operation.Read m n store output = output
+outputAfter Operation.Tick m n store output = turnOutput Turn.Ticking m n store output
+outputAfter Operation.Ask m n store output = turnOutput Turn.Asking m n store output
+outputAfter Operation.Gather m n store output = output
+
+-- the time of a record, with the two parameters
+abbrev pub whenOf : Record → Parameter → Parameter → Now
+whenOf r timeout retries = record { time = r .time; timeout = timeout; retries = retries }
+
+-- a record that is read is performed; any other has its refusal
+abbrev pub appliedAs : RecordRead → SdoClientManager → ℕ → Bytes → Parameter → Parameter → Bytes → Bytes → Bytes → Applied
+appliedAs (RecordRead.Refused why) m held b timeout retries store gather output = refusedWith m why held
+appliedAs (RecordRead.Record r) m held b timeout retries store gather output =
+    performed (r .operation) r m held (whenOf r timeout retries) (ownData b r) store gather output
+
+abbrev pub storeAs : RecordRead → SdoClientManager → ℕ → Bytes → Parameter → Parameter → Bytes → Bytes → Bytes
+storeAs (RecordRead.Refused why) m held b timeout retries store gather = store
+storeAs (RecordRead.Record r) m held b timeout retries store gather =
+    storeAfter (r .operation) r m held (whenOf r timeout retries) (ownData b r) store gather
+
+abbrev pub gatherAs : RecordRead → ℕ → Bytes → Bytes → Bytes
+gatherAs (RecordRead.Refused why) held b gather = gather
+gatherAs (RecordRead.Record r) held b gather = gatherAfter (r .operation) held (ownData b r) gather
+
+abbrev pub outputAs : RecordRead → SdoClientManager → Parameter → Parameter → Bytes → Bytes → Bytes
+outputAs (RecordRead.Refused why) m timeout retries store output = output
+outputAs (RecordRead.Record r) m timeout retries store output =
+    outputAfter (r .operation) m (whenOf r timeout retries) store output
+
+-- a gather buffer under 4,112 bytes is refused with 1
+unfoldable pub appliedOf : SdoClientManager → ℕ → Bytes → Parameter → Parameter → Bytes → Bytes → Bytes → Applied
+appliedOf m gathered b timeout retries store gather output =
+    pick (ltb (length gather) gatherSize)
+    (refusedWith m Refusal.BufferTooShort (heldBytes gathered))
+    (appliedAs (recordRead b) m (heldBytes gathered) b timeout retries store gather output)
+
+unfoldable pub appliedStore : SdoClientManager → ℕ → Bytes → Parameter → Parameter → Bytes → Bytes → Bytes
+appliedStore m gathered b timeout retries store gather =
+    pick (ltb (length gather) gatherSize) store (storeAs (recordRead b) m (heldBytes gathered) b timeout retries store gather)
+
+unfoldable pub appliedGather : ℕ → Bytes → Bytes → Bytes
+appliedGather gathered b gather =
+    pick (ltb (length gather) gatherSize) gather (gatherAs (recordRead b) (heldBytes gathered) b gather)
+
+unfoldable pub appliedOutput : SdoClientManager → Bytes → Parameter → Parameter → Bytes → Bytes → Bytes → Bytes
+appliedOutput m b timeout retries store gather output =
+    pick (ltb (length gather) gatherSize) output (outputAs (recordRead b) m timeout retries store output)

@@ -1,0 +1,24 @@
+-- The types that the replay's definitions speak of, under one name.
+pub use Rattle.codec.specs.declared.command.CommandId.{CommandId}
+pub use Rattle.codec.specs.declared.command.DataSize.{DataSize}
+pub use Rattle.codec.specs.declared.command.SdoCommand.{SdoCommand}
+pub use Rattle.codec.specs.declared.refusal.Refusal.{Refusal}
+pub use Rattle.codec.specs.declared.sequence.SequenceLayerHeader.{SequenceLayerHeader}
+pub use Rattle.codec.specs.declared.sequence.SequenceRead.{SequenceRead}
+pub use Rattle.codec.specs.declared.sequence.Written.{Written}
+pub use Rattle.connection.specs.declared.types.End.{End}
+pub use Rattle.connection.specs.declared.types.Now.{Now}
+pub use Rattle.connection.specs.declared.types.Parameter.{Parameter}
+pub use Rattle.connection.specs.declared.types.Reason.{Reason}
+pub use Rattle.manager.specs.declared.types.Answer.{Answer}
+pub use Rattle.manager.specs.declared.types.Done.{Done}
+pub use Rattle.manager.specs.declared.types.Ends.{Ends}
+pub use Rattle.manager.specs.declared.types.SdoClientManager.{SdoClientManager}
+pub use Rattle.manager.specs.declared.types.SentTo.{SentTo}
+pub use Rattle.manager.specs.declared.types.Turn.{Turn}
+pub use Rattle.trace.specs.declared.apply.Applied.{Applied}
+pub use Rattle.trace.specs.declared.record.Operation.{Operation}
+pub use Rattle.trace.specs.declared.record.OperationRead.{OperationRead}
+pub use Rattle.trace.specs.declared.record.Record.{Record}
+pub use Rattle.trace.specs.declared.record.RecordRead.{RecordRead}
+pub use Rattle.trace.specs.declared.record.Use.{Use}

@@ -1,0 +1,234 @@
+// A record applied to a manager and its store. What was gathered lies at the start of a lent buffer of 4,112 bytes: 4,096 for gather, and
+// 16 for the data of the record that uses them.
+ghost use mathlib.Core.Path.{_≡_};
+ghost use Prim.Native.Nat.{_≤_};
+ghost use lib.ListN.{length};
+ghost use Rattle.trace.specs.Replay.{
+  replyHeader,
+  replyCommand,
+  useDone,
+  useStore,
+  answeredWith,
+  gatheredWith,
+  moreGathered,
+  gatherAfter,
+  performed,
+  storeAfter,
+  outputAfter,
+  appliedOf,
+  appliedStore,
+  appliedGather,
+  appliedOutput,
+};
+use crate::at_most;
+use crate::record::Operation;
+use crate::record::Record;
+use crate::record::RecordRead;
+use crate::record::Use;
+use crate::record::read_record;
+use codec::command::CommandId;
+use codec::command::CommandLayerHeader;
+use codec::command::CommandRead;
+use codec::command::DataSize;
+use codec::command::SdoCommand;
+use codec::command::Segmentation;
+use codec::octets::part;
+use codec::octets::put;
+use codec::refusal::Refusal;
+use codec::sequence::ReceiveConnState;
+use codec::sequence::SendConnState;
+use codec::sequence::SequenceLayerHeader;
+use codec::sequence::SequenceRead;
+use connection::types::Now;
+use connection::types::Parameter;
+use manager::types::Answer;
+use manager::types::Done;
+use manager::types::SdoClientManager;
+use manager::types::no_ends;
+
+// What a record came to: the library's answer, and how many bytes are gathered after it.
+pub struct Applied {
+    pub done: Done,
+    pub gathered: usize,
+}
+
+fn answered(m: SdoClientManager, answer: Answer, gathered: usize) -> Applied
+    ensures { λ r. ⌜ r ≡ answeredWith m answer gathered ⌝ }
+{
+    let ends = no_ends();
+    let done = Done {
+        manager: m,
+        answer,
+        ends,
+    };
+    Applied { done, gathered }
+}
+
+fn reply_header(index: u16) -> SequenceLayerHeader
+    ensures { λ r. ⌜ r ≡ replyHeader index ⌝ }
+{
+    let octets = [(index % 256) as u8, (index / 256) as u8, 0, 0];
+    let SequenceRead::Header(h) = SequenceLayerHeader::deserialize(&octets) else {
+        // never: four bytes are a header
+        return SequenceLayerHeader {
+            receive_sequence_number: 0,
+            receive_con: ReceiveConnState::NoConnection,
+            send_sequence_number: 0,
+            send_con: SendConnState::NoConnection,
+        };
+    };
+    h
+}
+
+fn reply_command(flags: u8) -> SdoCommand
+    ensures { λ r. ⌜ r ≡ replyCommand flags ⌝ }
+{
+    let octets = [0, 0, flags, 0, 0, 0, 0, 0, 0, 0, 0, 0];
+    match SdoCommand::deserialize(&octets) {
+        CommandRead::Command {
+            command,
+            start: _,
+            len: _,
+        } => {
+            let header = command.header;
+            return SdoCommand {
+                header,
+                data_size: DataSize::Absent,
+            };
+        }
+        // never: twelve bytes that begin with a Nil command are one
+        CommandRead::Refused(_) => return SdoCommand {
+            header: CommandLayerHeader {
+                transaction_id: 0,
+                is_response: false,
+                is_aborted: false,
+                segmentation: Segmentation::Expedited,
+                command_id: CommandId::Nil,
+                segment_size: 0,
+            },
+            data_size: DataSize::Absent,
+        },
+    }
+}
+
+// The library's call of operations 1, 3 and 4.
+fn use_bytes(
+    u: Use,
+    r: Record,
+    m: SdoClientManager,
+    when: Now,
+    bytes: &[u8],
+    store: &mut [u8],
+) -> Done
+    ensures { λ d. ⌜ d ≡ useDone u r m «when» (now (bytes .entry)) (now (store .entry)) ⌝ }
+    ensures { λ _. ⌜ now (store .exit) ≡ useStore u r m «when» (now (bytes .entry)) (now (store .entry)) ⌝ }
+{
+    match u {
+        Use::Write => {
+            return m.write_object_by_index(r.node, r.index, r.sub_index, bytes, when, store);
+        }
+        Use::Dcf => return m.start_configuration_download(r.node, bytes, when, store),
+        Use::Reply => {
+            let seq = reply_header(r.index);
+            let cmd = reply_command(r.flags);
+            return m.handle_response(r.node, seq, cmd, bytes, store);
+        }
+    }
+}
+
+// Gathers, where it does not go past 4,096 bytes.
+fn gather_more(m: SdoClientManager, held: usize, own: &[u8], gather: &mut [u8]) -> Applied
+    requires { ⌜ (held ≤ 4096) × (length (now own) ≤ 16) × (4112 ≤ length (now gather)) ⌝ }
+    ensures { λ r. ⌜ r ≡ gatheredWith m held (length (now (own .entry))) ⌝ }
+    ensures { λ _. ⌜ now (gather .exit) ≡ moreGathered (now (gather .entry)) held (now (own .entry)) ⌝ }
+{
+    if 4096 < held + own.len() {
+        return answered(m, Answer::Refused(Refusal::NoRoom), held);
+    }
+    put(gather, held, own);
+    answered(m, Answer::Nothing, held + own.len())
+}
+
+fn perform(
+    r: Record,
+    m: SdoClientManager,
+    held: usize,
+    when: Now,
+    own: &[u8],
+    store: &mut [u8],
+    gather: &mut [u8],
+    output: &mut [u8],
+) -> Applied
+    requires { ⌜ (held ≤ 4096) × (length (now own) ≤ 16) × (4112 ≤ length (now gather)) ⌝ }
+    ensures { λ a. ⌜ a ≡ performed (r .operation) r m held «when» (now (own .entry)) (now (store .entry)) (now (gather .entry)) (now (output .entry)) ⌝ }
+    ensures { λ _. ⌜ now (store .exit) ≡ storeAfter (r .operation) r m held «when» (now (own .entry)) (now (store .entry)) (now (gather .entry)) ⌝ }
+    ensures { λ _. ⌜ now (gather .exit) ≡ gatherAfter (r .operation) held (now (own .entry)) (now (gather .entry)) ⌝ }
+    ensures { λ _. ⌜ now (output .exit) ≡ outputAfter (r .operation) m «when» (now (store .entry)) (now (output .entry)) ⌝ }
+{
+    let operation = r.operation;
+    match operation {
+        Operation::Uses(u) => {
+            put(gather, held, own);
+            let n = held + own.len();
+            let done = use_bytes(u, r, m, when, part(gather, 0, n), store);
+            return Applied { done, gathered: 0 };
+        }
+        Operation::Read => {
+            let done = m.read_object_by_index(r.node, r.index, r.sub_index, when, store);
+            return Applied {
+                done,
+                gathered: held,
+            };
+        }
+        Operation::Tick => {
+            let done = m.tick(when, store, output);
+            return Applied {
+                done,
+                gathered: held,
+            };
+        }
+        Operation::Ask => {
+            let done = m.get_pending_request(when, store, output);
+            return Applied {
+                done,
+                gathered: held,
+            };
+        }
+        Operation::Gather => return gather_more(m, held, own, gather),
+    }
+}
+
+// Applies the record in the first 32 bytes: the manager's call, or a gather. 11 and 10 as of read_record, 7 for a gather past 4,096 bytes,
+// 1 for a gather buffer under 4,112; then nothing has happened. Every other refusal is the library's own.
+pub fn apply(
+    m: SdoClientManager,
+    gathered: usize,
+    b: &[u8],
+    timeout: Parameter,
+    retries: Parameter,
+    store: &mut [u8],
+    gather: &mut [u8],
+    output: &mut [u8],
+) -> Applied
+    ensures { λ r. ⌜ r ≡ appliedOf m gathered (now (b .entry)) timeout retries (now (store .entry)) (now (gather .entry)) (now (output .entry)) ⌝ }
+    ensures { λ _. ⌜ now (store .exit) ≡ appliedStore m gathered (now (b .entry)) timeout retries (now (store .entry)) (now (gather .entry)) ⌝ }
+    ensures { λ _. ⌜ now (gather .exit) ≡ appliedGather gathered (now (b .entry)) (now (gather .entry)) ⌝ }
+    ensures { λ _. ⌜ now (output .exit) ≡ appliedOutput m (now (b .entry)) timeout retries (now (store .entry)) (now (gather .entry)) (now (output .entry)) ⌝ }
+{
+    let held = at_most(gathered, 4096);
+    if gather.len() < 4112 {
+        return answered(m, Answer::Refused(Refusal::BufferTooShort), held);
+    }
+    match read_record(b) {
+        RecordRead::Refused(r) => return answered(m, Answer::Refused(r), held),
+        RecordRead::Record(r) => {
+            let when = Now {
+                time: r.time,
+                timeout,
+                retries,
+            };
+            let own = part(b, 16, r.length as usize);
+            return perform(r, m, held, when, own, store, gather, output);
+        }
+    }
+}

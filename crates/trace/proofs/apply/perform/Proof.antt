@@ -2,9 +2,8 @@
 use native.Mathlib.Omega.{arith}
 use Prim.Native.Nat.{_+_, _≤_}
 use lib.ListN.{length}
-use mathlib.Core.Path.{refl, ap, _∙_}
+use mathlib.Core.Path.{refl, _∙_}
 use Rattle.codec.proofs.Writing.{put-fits}
-use Rattle.trace.specs.Replay.{andHeld}
 use Rattle.trace.proofs.Buffers.{used-part}
 use Rattle.trace.proofs.Performing.{comes}
 use borrow.Author.Needs.{needs}
@@ -18,25 +17,25 @@ returns c =
     let h : a .held + length (a .own .now) ≤ length (a .gather .now) = omega arith in
     let p = used-part (a .gather .now) (a .held) (a .own .now) h (c .before .before .before .before .before .before .before .before .put .ensures .1) (c .before .before .before .before .part .ensures) in
     comes (a .r) (a .m) (a .held) (a .when) (a .own .now) (a .store .now) (a .gather .now) (a .output .now) (c .before .before .before .before .before .before .before .before .before .before .before .operation .given .1)
-    (rw (← p) (ap (λ d. andHeld d 0) (c .before .before .use-bytes .ensures .0), (c .before .before .use-bytes .ensures .1, (c .before .before .before .before .before .before .before .before .put .ensures .1 ∙ put-fits _ _ _ h, refl))))
+    (rw (← p) (rw (c .before .before .use-bytes .ensures .0), (c .before .before .use-bytes .ensures .1, (c .before .before .before .before .before .before .before .before .put .ensures .1 ∙ put-fits _ _ _ h, refl))))
 
 returns-2 : tie.Need-returns-2
 returns-2 c =
     let a = c .before .before .before .before .before .before .before .before .args in
     comes (a .r) (a .m) (a .held) (a .when) (a .own .now) (a .store .now) (a .gather .now) (a .output .now) (c .before .before .enum-told .given .1)
-    (ap (λ d. andHeld d (a .held)) (c .read-object-by-index .ensures), (refl, (refl, refl)))
+    (rw (c .read-object-by-index .ensures), (refl, (refl, refl)))
 
 returns-3 : tie.Need-returns-3
 returns-3 c =
     let a = c .before .before .before .before .before .before .before .before .before .before .before .args in
     comes (a .r) (a .m) (a .held) (a .when) (a .own .now) (a .store .now) (a .gather .now) (a .output .now) (c .before .before .before .before .before .enum-told2 .given .1)
-    (ap (λ d. andHeld d (a .held)) (c .before .before .tick .ensures .0), (refl, (refl, c .before .before .tick .ensures .1)))
+    (rw (c .before .before .tick .ensures .0), (refl, (refl, c .before .before .tick .ensures .1)))
 
 returns-4 : tie.Need-returns-4
 returns-4 c =
     let a = c .before .before .before .before .before .before .before .before .before .before .before .args in
     comes (a .r) (a .m) (a .held) (a .when) (a .own .now) (a .store .now) (a .gather .now) (a .output .now) (c .before .before .before .before .before .enum-told3 .given .1)
-    (ap (λ d. andHeld d (a .held)) (c .before .before .get-pending-request .ensures .0), (refl, (refl, c .before .before .get-pending-request .ensures .1)))
+    (rw (c .before .before .get-pending-request .ensures .0), (refl, (refl, c .before .before .get-pending-request .ensures .1)))
 
 returns-5 : tie.Need-returns-5
 returns-5 c =

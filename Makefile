@@ -1,9 +1,15 @@
 # What the project is built and tested by. `make test` is the gate.
 
-.PHONY: test lib display trace dissect bench
+.PHONY: test replay lib display trace compare dissect bench
 
 test:
 	bash .ci/run
+
+# The replay, proved and built: document 01's run, or the trace that TRACE names, records or (in a file named .txt) readable lines.
+TRACE = traces/document01.trace
+replay:
+	@rt check replay 1>&2
+	@case '$(TRACE)' in *.txt) $(MAKE) -s trace < '$(TRACE)' | target/bin/replay ;; *) target/bin/replay < '$(TRACE)' ;; esac
 
 # The static library for C and Rust: target/staticlib/libostelumiv.a, with include/ostelumiv.h.
 lib:
@@ -20,6 +26,15 @@ trace:
 	@cd rust && cargo build --release --offline --quiet -p trace
 	@rust/target/release/trace $(DO)
 
+# The whole client against the repository's: RECORDS records drawn, every line and state compared, and how often each rule was reached;
+# and the replay of traces/ held to their lines.
+RECORDS = 1000000
+compare:
+	@rt check replay replay_states 1>&2
+	@cd rust && cargo build --release --offline --quiet -p trace -p replay_oracle
+	@tests/traces
+	@rust/target/release/replay_oracle compare $(RECORDS)
+
 # What Wireshark's dissector reads in the frames that the client sends, held to what was sent: those of the file that LINES names, which
 # has lines of the replay; without it those of traces/ through target/bin/replay. An exported LINES is the terminal's height, not a file.
 dissect: FILES = $(if $(filter command,$(firstword $(origin LINES))),$(LINES))
@@ -27,7 +42,11 @@ dissect:
 	@cd rust && cargo build --release --offline --quiet -p trace -p capture
 	@tests/dissect $(FILES)
 
-# Instructions of our codec and of the repository's, by callgrind. Debian's package valgrind is installed if it is not there.
+# Instructions of our codec and of our replay, and of the repository's, by callgrind. Debian's package valgrind is installed if it is not
+# there.
 bench: lib
 	command -v valgrind > /dev/null || { apt-get update && apt-get install -y valgrind; }
 	cd rust && cargo run --release --offline --quiet -p bench
+	@rt check replay 1>&2
+	@cd rust && cargo build --release --offline --quiet -p trace -p replay_oracle
+	@tests/bench

@@ -1,18 +1,37 @@
--- What a record that is read holds. Assumes nothing.
-use Prim.Native.Nat.{ℕ, _≤_}
+-- What a record is read as, and what one that is read holds. Assumes nothing.
+use Prim.Native.Nat.{ℕ, _≤_, _<_}
 use native.Mathlib.Omega.{arith}
-use mathlib.Core.Path.{_≡_, refl}
+use mathlib.Core.Path.{_≡_, refl, ap}
 use mathlib.Core.Bool.{Bool, true, false}
 use lib.Dec.{ltb}
 use lib.ListN.{length, getD}
 use borrow.Author.Tests.{ltb-false}
 use Rattle.laws.specs.Pick.{pick}
+use Rattle.laws.proofs.Answers.{told}
+use Rattle.laws.proofs.Picks.{below, not-below}
 use Rattle.codec.specs.Bytes.{Bytes}
 use Rattle.trace.specs.Record.{operationOf, ownData, recordAt, recordNamed, recordRead}
 use Rattle.trace.specs.Types.{Operation, OperationRead, Record, RecordRead, Refusal}
 use Rattle.trace.proofs.Buffers.{part-short}
 
--- its data are at most 16 bytes
+module _ (b : Bytes) where
+  pub short-record : length b < 32 → RecordRead.Refused Refusal.ShortRecord ≡ recordRead b
+  unfolding recordRead
+  short-record h = below _ _ _ _ h refl
+
+  pub named-record : {r found : OperationRead} {a : RecordRead} → 32 ≤ length b → r ≡ operationOf (getD b 0 0) → r ≡ found
+      → a ≡ recordNamed b found → a ≡ recordRead b
+  unfolding recordRead
+  named-record h e f g = not-below _ _ _ _ h (told (recordNamed b) e f g)
+
+  pub bad-length : (o : Operation) → 16 < getD b 5 0 → RecordRead.Refused Refusal.BadRecord ≡ recordNamed b (OperationRead.Known o)
+  bad-length o h = below _ _ _ _ h refl
+
+  pub good-length : (o : Operation) {r : Record} → getD b 5 0 ≤ 16 → r ≡ recordAt b o
+      → RecordRead.Record r ≡ recordNamed b (OperationRead.Known o)
+  good-length o h e = not-below _ _ _ _ h (ap RecordRead.Record e)
+
+-- the data of a record that is read are at most 16 bytes
 module _ (b : Bytes) {r : Record} where
   tested : (t : Bool) (o : Operation) → ltb 16 (getD b 5 0) ≡ t
       → RecordRead.Record r ≡ pick t (RecordRead.Refused Refusal.BadRecord) (RecordRead.Record (recordAt b o)) → r .length ≤ 16

@@ -80,7 +80,7 @@ impl Side {
 /// Compares over so many records, and prints the table of what they reached. It answers whether both
 /// programs were there and nothing differed.
 pub fn run(records: usize, first_seed: u64) -> Result<bool, String> {
-    let mut sides = [Side::new("replay_state", true), Side::new("replay", false)];
+    let mut sides = [Side::new("replay_states", true), Side::new("replay", false)];
     let (mut traces, mut seen) = (0, 0);
     let counts = cover::each_trace(records, first_seed, |trace, run| {
         traces += 1;

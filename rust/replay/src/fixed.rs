@@ -1,5 +1,6 @@
-//! A sample of traces and the oracle's lines, as files, for programs that run without Rust: a pair for
-//! the replay, with both parameters absent, and two for the test program with states.
+//! Traces and the oracle's lines, as the files that programs of the repository are run on: a sample that
+//! stands in the repository and runs without Rust (a pair for the replay, with both parameters absent,
+//! and two for the replay with states), and one long trace that is drawn anew for each gate.
 
 use crate::counts::Counts;
 use crate::generate;
@@ -19,23 +20,37 @@ pub fn files() -> Result<(Files, Counts), String> {
         counts.add(&run.counts);
     }
     let files = vec![
-        ("replay.lines", replay.plain_lines()),
-        ("replay.trace", replay.records),
-        ("replay_state.trace", no_retries.with_parameters()),
-        ("replay_state.lines", no_retries.lines),
-        ("replay_state_retries.trace", retries.with_parameters()),
-        ("replay_state_retries.lines", retries.lines),
+        ("replay_fixed/stdout", replay.plain_lines()),
+        ("replay_fixed/stdin", replay.records),
+        ("replay_states/stdin", no_retries.with_parameters()),
+        ("replay_states/stdout", no_retries.lines),
+        ("replay_states_retries/stdin", retries.with_parameters()),
+        ("replay_states_retries/stdout", retries.lines),
     ];
     Ok((files, counts))
 }
 
-/// Writes the files to a folder, and answers the table of what they reach.
-pub fn write(folder: &Path) -> Result<String, String> {
-    let wrong = |error| format!("{}: {error}", folder.display());
+/// Writes the files to the folder of the crates, and answers the table of what they reach.
+pub fn write(crates: &Path) -> Result<String, String> {
     let (files, counts) = files()?;
-    fs::create_dir_all(folder).map_err(wrong)?;
     for (name, bytes) in files {
-        fs::write(folder.join(name), bytes).map_err(wrong)?;
+        write_file(crates, name, &bytes)?;
     }
     Ok(counts.text())
+}
+
+/// Writes the longest trace and the oracle's lines to the folder of the crates, and answers how many
+/// records it has.
+pub fn write_drawn(crates: &Path) -> Result<String, String> {
+    let longest = generate::longest()?;
+    write_file(crates, "replay_drawn/stdin", &longest.with_parameters())?;
+    write_file(crates, "replay_drawn/stdout", &longest.lines)?;
+    let records = longest.lines.iter().filter(|byte| **byte == b'\n').count() / 2;
+    Ok(format!(
+        "{records} records drawn, with the repository's answers\n"
+    ))
+}
+
+fn write_file(crates: &Path, name: &str, bytes: &[u8]) -> Result<(), String> {
+    fs::write(crates.join(name), bytes).map_err(|error| format!("{name}: {error}"))
 }

@@ -9,11 +9,12 @@ usage: replay_oracle MODE
   state                   the same with ten bytes of parameters ahead of the trace, and a state line
                           after each line
   cover RECORDS [SEED]    the generator and the oracle alone: how often each rule is reached
-  compare RECORDS [SEED]  our replay_state and replay on drawn traces of so many records, from a
+  compare RECORDS [SEED]  our replay_states and replay on drawn traces of so many records, from a
                           first seed on, line by line against the oracle
   trace SEED | longest    the drawn trace of a seed, or the one of 65,535 records and more, with
                           the parameters ahead
-  fixed FOLDER            writes the sample of traces and lines that runs without Rust";
+  fixed CRATES            writes the sample of traces and lines that runs without Rust
+  drawn CRATES            writes the long trace and its lines that the gate runs";
 
 fn main() -> ExitCode {
     let arguments: Vec<String> = env::args().skip(1).collect();
@@ -53,7 +54,8 @@ fn run(arguments: &[&str]) -> Result<bool, String> {
             };
             output().write_all(&run.with_parameters())
         }
-        ["fixed", folder] => write!(output(), "{}", fixed::write(Path::new(folder))?),
+        ["fixed", crates] => write!(output(), "{}", fixed::write(Path::new(crates))?),
+        ["drawn", crates] => write!(output(), "{}", fixed::write_drawn(Path::new(crates))?),
         _ => return Err(USAGE.into()),
     };
     done.map(|()| true).map_err(|error| error.to_string())

@@ -39,7 +39,7 @@ fn the_oracle_is_like_itself() {
     let plain = format!("exec {ORACLE} plain");
     let (passed, text) = compared(&folder(
         "same",
-        &[("replay_state", &state), ("replay", &plain)],
+        &[("replay_states", &state), ("replay", &plain)],
     ));
     assert!(passed, "{text}");
     assert!(!text.contains("DIFFERENCE"), "{text}");
@@ -53,10 +53,13 @@ fn a_wrong_program() {
     let plain = format!("{ORACLE} plain | sed 's/^300 .*/300 0 0 - - -/'");
     let (passed, text) = compared(&folder(
         "wrong",
-        &[("replay_state", &state), ("replay", &plain)],
+        &[("replay_states", &state), ("replay", &plain)],
     ));
     assert!(!passed);
-    assert!(text.contains("DIFFERENCE in replay_state, seed "), "{text}");
+    assert!(
+        text.contains("DIFFERENCE in replay_states, seed "),
+        "{text}"
+    );
     assert!(text.contains("record 300\n"), "{text}");
 }
 
@@ -65,7 +68,7 @@ fn a_program_that_stops_early_or_fails() {
     let state = format!("{ORACLE} state | head -n 7");
     let (passed, text) = compared(&folder(
         "early",
-        &[("replay_state", &state), ("replay", "exit 3")],
+        &[("replay_states", &state), ("replay", "exit 3")],
     ));
     assert!(!passed);
     assert!(text.contains("record 4\n"), "{text}");
@@ -76,8 +79,8 @@ fn a_program_that_stops_early_or_fails() {
 #[test]
 fn a_missing_program() {
     let state = format!("exec {ORACLE} state");
-    let (passed, text) = compared(&folder("missing", &[("replay_state", &state)]));
+    let (passed, text) = compared(&folder("missing", &[("replay_states", &state)]));
     assert!(!passed);
     assert!(text.contains("NOT COMPARED: replay is not in "), "{text}");
-    assert!(!text.contains("NOT COMPARED: replay_state"), "{text}");
+    assert!(!text.contains("NOT COMPARED: replay_states"), "{text}");
 }

@@ -1,5 +1,5 @@
-//! The fixed traces and lines: what stands in fixed/ is what the oracle says now, and it reaches every
-//! rule that such files can.
+//! The fixed traces and lines: what stands in the crates' folders is what the oracle says now, and it
+//! reaches every rule that such files can.
 
 #![cfg(has_oracle)]
 
@@ -26,10 +26,10 @@ fn file(name: &str) -> Vec<u8> {
     found.unwrap().1
 }
 
-/// `replay_oracle fixed rust/replay/fixed` writes them anew.
+/// `replay_oracle fixed crates` writes them anew.
 #[test]
 fn the_files_are_those_that_stand_here() {
-    let folder = Path::new(env!("CARGO_MANIFEST_DIR")).join("fixed");
+    let folder = Path::new(env!("CARGO_MANIFEST_DIR")).join("../../crates");
     for (name, bytes) in fixed::files().unwrap().0 {
         let found = fs::read(folder.join(name)).unwrap();
         assert!(found == bytes, "{name} is not what the oracle says now");
@@ -40,7 +40,7 @@ fn the_files_are_those_that_stand_here() {
 fn they_reach_every_other_rule_in_a_few_thousand_records() {
     let (files, counts) = fixed::files().unwrap();
     assert_eq!(counts.missing(), NOT_REACHED);
-    let traces = files.iter().filter(|(name, _)| name.ends_with(".trace"));
+    let traces = files.iter().filter(|(name, _)| name.ends_with("/stdin"));
     let records: usize = traces.map(|(_, trace)| trace.len() / 32).sum();
     assert!(records < 6_000, "{records}");
 }
@@ -48,18 +48,18 @@ fn they_reach_every_other_rule_in_a_few_thousand_records() {
 #[test]
 fn the_oracle_as_a_stream_says_the_same() {
     let mut lines = Vec::new();
-    stream::plain(&file("replay.trace")[..], &mut lines).unwrap();
-    assert!(lines == file("replay.lines"));
-    for name in ["replay_state", "replay_state_retries"] {
+    stream::plain(&file("replay_fixed/stdin")[..], &mut lines).unwrap();
+    assert!(lines == file("replay_fixed/stdout"));
+    for name in ["replay_states", "replay_states_retries"] {
         let mut lines = Vec::new();
-        stream::with_state(&file(&format!("{name}.trace"))[..], &mut lines).unwrap();
-        assert!(lines == file(&format!("{name}.lines")), "{name}");
+        stream::with_state(&file(&format!("{name}/stdin"))[..], &mut lines).unwrap();
+        assert!(lines == file(&format!("{name}/stdout")), "{name}");
     }
 }
 
 #[test]
 fn the_edges_of_document_01() {
-    let replay = String::from_utf8(file("replay.lines")).unwrap();
+    let replay = String::from_utf8(file("replay_fixed/stdout")).unwrap();
     let run = "\
 1 1 0 - - -
 2 6 0 5 FC0100000001000000000000 -
@@ -69,7 +69,7 @@ fn the_edges_of_document_01() {
 ";
     assert!(replay.starts_with(run));
     assert!(replay.ends_with(" - 11 - - -\n"));
-    let state = String::from_utf8(file("replay_state.lines")).unwrap();
+    let state = String::from_utf8(file("replay_states/stdout")).unwrap();
     let abort = state.lines().nth(2).unwrap();
     assert_eq!(abort, "2 5 0 1 FE000000000120000400000000000405 1:T:0");
 }

@@ -27,12 +27,13 @@ trace:
 	@rust/target/release/trace $(DO)
 
 # The whole client against the repository's: RECORDS records drawn, every line and state compared, and how often each rule was reached;
-# and the replay of traces/ held to their lines.
+# the replay of traces/ held to their lines, and random bytes through it.
 RECORDS = 1000000
 compare:
 	@rt check replay replay_states 1>&2
 	@cd rust && cargo build --release --offline --quiet -p trace -p replay_oracle
 	@tests/traces
+	@tests/random
 	@rust/target/release/replay_oracle compare $(RECORDS)
 
 # What Wireshark's dissector reads in the frames that the client sends, held to what was sent: those of the file that LINES names, which

@@ -3,7 +3,7 @@ use Prim.Native.Nat.{ℕ}
 use mathlib.Core.Path.{_≡_}
 use Rattle.laws.proofs.Answers.{told}
 use Rattle.connection.specs.Ask.{given, givenAt}
-use Rattle.connection.specs.Deadline.{deadlineOf}
+use Rattle.sdo.specs.Deadline.{deadlineOf}
 use Rattle.connection.specs.Types.{Moment, Now, Outgoing, SdoClientConnection, SdoClientConnectionState, Stepped}
 
 pub given-by : (c : SdoClientConnection) (n : Now) (s : SdoClientConnectionState) (sent : ℕ) (o : Outgoing) {answer found : Moment} {r : Stepped}

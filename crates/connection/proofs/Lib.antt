@@ -1,16 +1,2 @@
-pub mod Answering
 pub mod AskCases
-pub mod Asking
-pub mod Carrying
-pub mod Choices
-pub mod Delivered
-pub mod MadeSound
-pub mod PartsAsked
-pub mod PartsJoined
-pub mod ReplySound
 pub mod StartCases
-pub mod Starting
-pub mod StepSound
-pub mod Storing
-pub mod Wires
-pub mod Writing

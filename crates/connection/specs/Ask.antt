@@ -3,10 +3,10 @@
 use Prim.Native.Nat.{ℕ, _+_, _-_, _%_}
 use lib.Dec.{eqb}
 use Rattle.laws.specs.Pick.{pick}
-use Rattle.connection.specs.Commands.{openingCommand, readCommand, nextCommand, firstCommand, laterCommand}
-use Rattle.connection.specs.Deadline.{retriesOf, deadlineOf}
-use Rattle.connection.specs.Parts.{total, partLength}
-use Rattle.connection.specs.Record.{changed, ended}
+use Rattle.sdo.specs.Commands.{openingCommand, readCommand, nextCommand, firstCommand, laterCommand}
+use Rattle.sdo.specs.Deadline.{retriesOf, deadlineOf}
+use Rattle.sdo.specs.Parts.{total, partLength}
+use Rattle.sdo.specs.Record.{changed, ended}
 use Rattle.connection.specs.Types.{
   Deadline,
   LoadedTransfer,

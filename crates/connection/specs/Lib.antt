@@ -1,15 +1,4 @@
 pub mod Ask
-pub mod Calls
-pub mod Commands
-pub mod Consistent
-pub mod Deadline
-pub mod Delivery
-pub mod Jobs
-pub mod Parts
-pub mod PartsOf
-pub mod Payload
-pub mod Record
-pub mod Reply
 pub mod Start
 pub mod Tick
 pub mod Types

@@ -9,9 +9,8 @@ use lib.ListN.{length}
 use Rattle.laws.specs.Pick.{pick}
 use Rattle.codec.specs.Bytes.{Bytes, placed}
 use Rattle.codec.specs.Dcf.{countOf, dcfStep}
-use Rattle.connection.specs.Deadline.{retriesOf, deadlineOf}
-use Rattle.connection.specs.Record.{changed}
-use Rattle.connection.specs.Reply.{nextTransaction}
+use Rattle.sdo.specs.Deadline.{retriesOf, deadlineOf}
+use Rattle.sdo.specs.Record.{changed, nextTransaction}
 use Rattle.connection.specs.Types.{
   Changed,
   Deadline,

@@ -4,9 +4,9 @@ use Prim.Native.Nat.{ℕ, _-_}
 use lib.Dec.{ltb, eqb}
 use Rattle.laws.specs.Pick.{pick}
 use Rattle.connection.specs.Ask.{quiet}
-use Rattle.connection.specs.Commands.{abortCommand}
-use Rattle.connection.specs.Deadline.{deadlineOf}
-use Rattle.connection.specs.Record.{changed, ended}
+use Rattle.sdo.specs.Commands.{abortCommand}
+use Rattle.sdo.specs.Deadline.{deadlineOf}
+use Rattle.sdo.specs.Record.{changed, ended}
 use Rattle.connection.specs.Types.{
   Deadline,
   Moment,

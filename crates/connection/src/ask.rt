@@ -2,34 +2,35 @@
 ghost use mathlib.Core.Path.{_≡_};
 ghost use Prim.Native.Nat.{_+_, _%_};
 ghost use Rattle.connection.specs.Ask.{quiet as quietStep, given as givenStep, finish as finishOf, askRead, askFirst, askLater, askIn, askOf};
-ghost use Rattle.connection.specs.Commands.{outgoing};
-ghost use Rattle.connection.specs.Record.{ended as endedWith};
-use crate::deadline::deadline_of;
-use crate::deadline::retries_of;
-use crate::outgoing::numbered;
-use crate::parts::part_length;
-use crate::parts::rest_of;
-use crate::parts::total_of;
-use crate::types::Deadline;
-use crate::types::LoadedTransfer;
-use crate::types::Message;
-use crate::types::Moment;
-use crate::types::Now;
-use crate::types::Outcome;
-use crate::types::Outstanding;
-use crate::types::PendingRead;
-use crate::types::Reason;
-use crate::types::SdoClientConnection;
-use crate::types::SdoClientConnectionState;
-use crate::types::SdoJob;
-use crate::types::Sends;
-use crate::types::Step;
-use crate::types::Stepped;
-use crate::types::Waiting;
+ghost use Rattle.sdo.specs.Commands.{outgoing};
+ghost use Rattle.sdo.specs.Record.{ended as endedWith};
 use codec::refusal::Refusal;
+use sdo::Deadline;
+use sdo::LoadedTransfer;
+use sdo::Message;
+use sdo::Moment;
+use sdo::Now;
+use sdo::Outcome;
+use sdo::Outstanding;
+use sdo::PendingRead;
+use sdo::Reason;
+use sdo::SdoClientConnection;
+use sdo::SdoClientConnectionState;
+use sdo::SdoJob;
+use sdo::Sends;
+use sdo::Step;
+use sdo::Stepped;
+use sdo::Waiting;
+use sdo::commands::numbered;
+use sdo::deadlines::deadline_of;
+use sdo::deadlines::retries_of;
+use sdo::numbers::next_number;
+use sdo::parts::part_length;
+use sdo::parts::rest_of;
+use sdo::parts::total_of;
 
 // Nothing is given.
-pub(crate) fn quiet(c: SdoClientConnection) -> Stepped
+pub fn quiet(c: SdoClientConnection) -> Stepped
     ensures { λ r. ⌜ r ≡ quietStep c ⌝ }
 {
     Stepped::Went(Step {
@@ -39,7 +40,7 @@ pub(crate) fn quiet(c: SdoClientConnection) -> Stepped
 }
 
 // Closed, nothing waited for, for a reason.
-pub(crate) fn ended(c: SdoClientConnection, why: Reason) -> SdoClientConnection
+pub fn ended(c: SdoClientConnection, why: Reason) -> SdoClientConnection
     ensures { λ r. ⌜ r ≡ endedWith c why ⌝ }
 {
     SdoClientConnection {
@@ -57,13 +58,6 @@ pub(crate) fn ended(c: SdoClientConnection, why: Reason) -> SdoClientConnection
         outcome: Outcome::Ended(why),
         ..c
     }
-}
-
-// The number after this one, modulo 64.
-pub(crate) fn next_number(n: u8) -> u8
-    ensures { λ r. ⌜ r ≡ (n + 1) % 64 ⌝ }
-{
-    ((n as u16 + 1) % 64) as u8
 }
 
 // A command is given: deadline and retries are set, and the send number steps. 8 where the deadline does not fit.
@@ -110,7 +104,7 @@ fn given(
 }
 
 // Complete where none is counted any more, else Cut.
-pub(crate) fn finish(left: u32) -> Reason
+pub fn finish(left: u32) -> Reason
     ensures { λ r. ⌜ r ≡ finishOf left ⌝ }
 {
     if left == 0 {
@@ -212,18 +206,16 @@ fn ask_in(s: SdoClientConnectionState, c: SdoClientConnection, n: Now) -> Steppe
     }
 }
 
-impl SdoClientConnection {
-    // What the connection has to send next, and the connection after it. Call it when a frame can go out; a call that finds nothing to
-    // send changes nothing, but for a job that is done: it is ended then. 8 where the deadline to be set does not fit.
-    pub fn get_pending_request(self, when: Now) -> Stepped
-        ensures { λ r. ⌜ r ≡ askOf self «when» ⌝ }
-    {
-        let waiting = self.waiting;
-        let outstanding = waiting.last_sent_command;
-        let state = self.state;
-        match outstanding {
-            Outstanding::Waits(_) => return quiet(self),
-            Outstanding::Nothing => return ask_in(state, self, when),
-        }
+// What the connection has to send next, and the connection after it. Call it when a frame can go out; a call that finds nothing to
+// send changes nothing, but for a job that is done: it is ended then. 8 where the deadline to be set does not fit.
+pub fn get_pending_request(c: SdoClientConnection, when: Now) -> Stepped
+    ensures { λ r. ⌜ r ≡ askOf c «when» ⌝ }
+{
+    let waiting = c.waiting;
+    let outstanding = waiting.last_sent_command;
+    let state = c.state;
+    match outstanding {
+        Outstanding::Waits(_) => return quiet(c),
+        Outstanding::Nothing => return ask_in(state, c, when),
     }
 }

@@ -2,11 +2,5 @@
 // connection is plain data by value. Asking and ticking decide on the record alone, and answer which command goes out, with its
 // place; the bytes of a job lie in a room that the caller lends, and are touched by start, reply and write_payload only.
 pub mod ask;
-pub mod deadline;
-pub mod outgoing;
-pub mod parts;
-pub mod payload;
-pub mod reply;
 pub mod start;
 pub mod tick;
-pub mod types;

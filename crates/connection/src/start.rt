@@ -14,22 +14,6 @@ ghost use Rattle.connection.specs.Start.{
   startDcf,
   roomWith,
 };
-use crate::deadline::deadline_of;
-use crate::deadline::retries_of;
-use crate::reply::next_transaction;
-use crate::types::Changed;
-use crate::types::Deadline;
-use crate::types::LoadedTransfer;
-use crate::types::Moment;
-use crate::types::Now;
-use crate::types::Outcome;
-use crate::types::Outstanding;
-use crate::types::PendingRead;
-use crate::types::SdoClientConnection;
-use crate::types::SdoClientConnectionState;
-use crate::types::SdoJob;
-use crate::types::Transfer;
-use crate::types::Waiting;
 use codec::dcf::DcfCount;
 use codec::dcf::DcfCursor;
 use codec::dcf::DcfStep;
@@ -37,6 +21,22 @@ use codec::dcf::dcf_count;
 use codec::dcf::dcf_step;
 use codec::octets::put;
 use codec::refusal::Refusal;
+use sdo::Changed;
+use sdo::Deadline;
+use sdo::LoadedTransfer;
+use sdo::Moment;
+use sdo::Now;
+use sdo::Outcome;
+use sdo::Outstanding;
+use sdo::PendingRead;
+use sdo::SdoClientConnection;
+use sdo::SdoClientConnectionState;
+use sdo::SdoJob;
+use sdo::Transfer;
+use sdo::Waiting;
+use sdo::deadlines::deadline_of;
+use sdo::deadlines::retries_of;
+use sdo::numbers::next_transaction;
 
 fn is_idle(s: SdoClientConnectionState) -> bool
     ensures { λ r. ⌜ r ≡ isIdle s ⌝ }
@@ -157,89 +157,99 @@ fn keep_bytes(answer: Changed, bytes: &[u8], room: &mut [u8])
     }
 }
 
-impl SdoClientConnection {
-    // Starts a job that reads an object. 4 where a job is running, 8 where the deadline does not fit.
-    pub fn start_read_job(self, index: u16, sub_index: u8, tid: u8, when: Now) -> Changed
-        ensures { λ r. ⌜ r ≡ startRead self tid «when» index «sub_index» ⌝ }
-    {
-        let state = self.state;
-        if is_idle(state) {
-            let read = PendingRead::Read { index, sub_index };
-            let job = job_with(
-                0,
-                DcfCursor { at: 0, left: 0 },
-                LoadedTransfer::Unloaded,
-                read,
-            );
-            return started(self, tid, when, job);
-        }
-        Changed::Refused(Refusal::Busy)
+// Starts a job that reads an object. 4 where a job is running, 8 where the deadline does not fit.
+pub fn start_read_job(
+    c: SdoClientConnection,
+    index: u16,
+    sub_index: u8,
+    tid: u8,
+    when: Now,
+) -> Changed
+    ensures { λ r. ⌜ r ≡ startRead c tid «when» index «sub_index» ⌝ }
+{
+    let state = c.state;
+    if is_idle(state) {
+        let read = PendingRead::Read { index, sub_index };
+        let job = job_with(
+            0,
+            DcfCursor { at: 0, left: 0 },
+            LoadedTransfer::Unloaded,
+            read,
+        );
+        return started(c, tid, when, job);
     }
+    Changed::Refused(Refusal::Busy)
+}
 
-    // Starts a job that writes an object. 4 where a job is running, 7 where its bytes and the 4 ahead of them go past the room, 8 where
-    // the deadline does not fit; then the room is as it was.
-    pub fn start_write_job(
-        self,
-        index: u16,
-        sub_index: u8,
-        bytes: &[u8],
-        tid: u8,
-        when: Now,
-        room: &mut [u8],
-    ) -> Changed
-        ensures { λ r. ⌜ r ≡ startWrite self tid «when» index «sub_index» (now (bytes .entry)) (now (room .entry)) ⌝ }
-        ensures { λ _. ⌜ now (room .exit) ≡ roomWith (startWrite self tid «when» index «sub_index» (now (bytes .entry)) (now (room .entry))) (now (bytes .entry)) (now (room .entry)) ⌝ }
-    {
-        let state = self.state;
-        if is_idle(state) {
-            let size = bytes.len();
-            let most = capacity_of(room.len());
-            if most < 4 {
-                return Changed::Refused(Refusal::NoRoom);
-            }
-            if most - 4 < size {
-                return Changed::Refused(Refusal::NoRoom);
-            }
-            let loaded = LoadedTransfer::Loaded(Transfer {
-                index,
-                sub_index,
-                start: 0,
-                len: size as u32,
-            });
-            let job = job_with(
-                size,
-                DcfCursor { at: 0, left: 0 },
-                loaded,
-                PendingRead::NoRead,
-            );
-            let answer = started(self, tid, when, job);
-            keep_bytes(answer, bytes, room);
-            return answer;
+// Starts a job that writes an object. 4 where a job is running, 7 where its bytes and the 4 ahead of them go past the room, 8 where
+// the deadline does not fit; then the room is as it was.
+pub fn start_write_job(
+    c: SdoClientConnection,
+    index: u16,
+    sub_index: u8,
+    bytes: &[u8],
+    tid: u8,
+    when: Now,
+    room: &mut [u8],
+) -> Changed
+    ensures { λ r. ⌜ r ≡ startWrite c tid «when» index «sub_index» (now (bytes .entry)) (now (room .entry)) ⌝ }
+    ensures { λ _. ⌜ now (room .exit) ≡ roomWith (startWrite c tid «when» index «sub_index» (now (bytes .entry)) (now (room .entry))) (now (bytes .entry)) (now (room .entry)) ⌝ }
+{
+    let state = c.state;
+    if is_idle(state) {
+        let size = bytes.len();
+        let most = capacity_of(room.len());
+        if most < 4 {
+            return Changed::Refused(Refusal::NoRoom);
         }
-        Changed::Refused(Refusal::Busy)
+        if most - 4 < size {
+            return Changed::Refused(Refusal::NoRoom);
+        }
+        let loaded = LoadedTransfer::Loaded(Transfer {
+            index,
+            sub_index,
+            start: 0,
+            len: size as u32,
+        });
+        let job = job_with(
+            size,
+            DcfCursor { at: 0, left: 0 },
+            loaded,
+            PendingRead::NoRead,
+        );
+        let answer = started(c, tid, when, job);
+        keep_bytes(answer, bytes, room);
+        return answer;
     }
+    Changed::Refused(Refusal::Busy)
+}
 
-    // Starts a concise DCF job. 4 where a job is running, 5 for a DCF under four bytes, 7 where it goes past the room, 8 where the
-    // deadline does not fit; then the room is as it was.
-    pub fn start_concise_dcf_job(self, dcf: &[u8], tid: u8, when: Now, room: &mut [u8]) -> Changed
-        ensures { λ r. ⌜ r ≡ startDcf self tid «when» (now (dcf .entry)) (now (room .entry)) ⌝ }
-        ensures { λ _. ⌜ now (room .exit) ≡ roomWith (startDcf self tid «when» (now (dcf .entry)) (now (room .entry))) (now (dcf .entry)) (now (room .entry)) ⌝ }
-    {
-        let state = self.state;
-        if is_idle(state) {
-            let DcfCount::Count(count) = dcf_count(dcf) else {
-                return Changed::Refused(Refusal::DcfTooShort);
-            };
-            if capacity_of(room.len()) < dcf.len() {
-                return Changed::Refused(Refusal::NoRoom);
-            }
-            let first = DcfCursor { at: 4, left: count };
-            let step = dcf_step(dcf, first);
-            let job = dcf_job(step, dcf.len(), first);
-            let answer = started(self, dcf_transaction(step, tid), when, job);
-            keep_bytes(answer, dcf, room);
-            return answer;
+// Starts a concise DCF job. 4 where a job is running, 5 for a DCF under four bytes, 7 where it goes past the room, 8 where the
+// deadline does not fit; then the room is as it was.
+pub fn start_concise_dcf_job(
+    c: SdoClientConnection,
+    dcf: &[u8],
+    tid: u8,
+    when: Now,
+    room: &mut [u8],
+) -> Changed
+    ensures { λ r. ⌜ r ≡ startDcf c tid «when» (now (dcf .entry)) (now (room .entry)) ⌝ }
+    ensures { λ _. ⌜ now (room .exit) ≡ roomWith (startDcf c tid «when» (now (dcf .entry)) (now (room .entry))) (now (dcf .entry)) (now (room .entry)) ⌝ }
+{
+    let state = c.state;
+    if is_idle(state) {
+        let DcfCount::Count(count) = dcf_count(dcf) else {
+            return Changed::Refused(Refusal::DcfTooShort);
+        };
+        if capacity_of(room.len()) < dcf.len() {
+            return Changed::Refused(Refusal::NoRoom);
         }
-        Changed::Refused(Refusal::Busy)
+        let first = DcfCursor { at: 4, left: count };
+        let step = dcf_step(dcf, first);
+        let job = dcf_job(step, dcf.len(), first);
+        let answer = started(c, dcf_transaction(step, tid), when, job);
+        keep_bytes(answer, dcf, room);
+        return answer;
     }
+    Changed::Refused(Refusal::Busy)
 }

@@ -4,20 +4,20 @@ ghost use Prim.Native.Nat.{_<_};
 ghost use Rattle.connection.specs.Tick.{repeated as repeatedOf, retriedAt, timedOut, tickAt, tickOf};
 use crate::ask::ended;
 use crate::ask::quiet;
-use crate::deadline::deadline_of;
-use crate::outgoing::numbered;
-use crate::types::Deadline;
-use crate::types::Message;
-use crate::types::Moment;
-use crate::types::Now;
-use crate::types::Outstanding;
-use crate::types::Reason;
-use crate::types::SdoClientConnection;
-use crate::types::Sends;
-use crate::types::Step;
-use crate::types::Stepped;
-use crate::types::Waiting;
 use codec::refusal::Refusal;
+use sdo::Deadline;
+use sdo::Message;
+use sdo::Moment;
+use sdo::Now;
+use sdo::Outstanding;
+use sdo::Reason;
+use sdo::SdoClientConnection;
+use sdo::Sends;
+use sdo::Step;
+use sdo::Stepped;
+use sdo::Waiting;
+use sdo::commands::numbered;
+use sdo::deadlines::deadline_of;
 
 const TIMED_OUT: u32 = 0x05040000;
 
@@ -87,14 +87,12 @@ fn tick_at(d: Deadline, c: SdoClientConnection, n: Now) -> Stepped
     }
 }
 
-impl SdoClientConnection {
-    // What a deadline that has passed brings about: a repeat, or the abort of the connection. Call it when next_action_time has come; a
-    // call before that changes nothing. 8 where a new deadline does not fit.
-    pub fn tick(self, when: Now) -> Stepped
-        ensures { λ r. ⌜ r ≡ tickOf self «when» ⌝ }
-    {
-        let waiting = self.waiting;
-        let deadline = waiting.deadline;
-        tick_at(deadline, self, when)
-    }
+// What a deadline that has passed brings about: a repeat, or the abort of the connection. Call it when next_action_time has come; a
+// call before that changes nothing. 8 where a new deadline does not fit.
+pub fn tick(c: SdoClientConnection, when: Now) -> Stepped
+    ensures { λ r. ⌜ r ≡ tickOf c «when» ⌝ }
+{
+    let waiting = c.waiting;
+    let deadline = waiting.deadline;
+    tick_at(deadline, c, when)
 }

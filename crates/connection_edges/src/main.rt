@@ -9,17 +9,23 @@ use codec::refusal::refusal_number;
 use codec::sequence::SequenceLayerHeader;
 use codec::sequence::SequenceRead;
 use codec::sequence::Written;
-use connection::payload::write_payload;
-use connection::types::Changed;
-use connection::types::EndFound;
-use connection::types::Now;
-use connection::types::Outgoing;
-use connection::types::Parameter;
-use connection::types::Reason;
-use connection::types::SdoClientConnection;
-use connection::types::Sends;
-use connection::types::Stepped;
+use connection::ask::get_pending_request;
+use connection::start::start_concise_dcf_job;
+use connection::start::start_read_job;
+use connection::start::start_write_job;
+use connection::tick::tick;
+use exchange::reply::handle_response;
 use libc::STDOUT_FILENO;
+use sdo::Changed;
+use sdo::EndFound;
+use sdo::Now;
+use sdo::Outgoing;
+use sdo::Parameter;
+use sdo::Reason;
+use sdo::SdoClientConnection;
+use sdo::Sends;
+use sdo::Stepped;
+use sdo::payload::write_payload;
 
 fn text(b: &[u8]) {
     io::write_all(STDOUT_FILENO, b);
@@ -157,7 +163,7 @@ fn reply(c: SdoClientConnection, octet0: u8, octet1: u8, room: &mut [u8]) -> Sdo
         data_size: DataSize::Absent,
     };
     let none = [0u8; 0];
-    came(b"reply ", c.handle_response(seq, cmd, &none, room), c)
+    came(b"reply ", handle_response(c, seq, cmd, &none, room), c)
 }
 
 // Document 01's five records.
@@ -167,12 +173,12 @@ fn run() {
     let bytes = [0x01, 0x04];
     let c = came(
         b"write ",
-        new.start_write_job(0x2100, 1, &bytes, 1, absent(0), &mut room),
+        start_write_job(new, 0x2100, 1, &bytes, 1, absent(0), &mut room),
         new,
     );
-    let c = show(b"ask ", c.get_pending_request(absent(0)), c, &room);
+    let c = show(b"ask ", get_pending_request(c, absent(0)), c, &room);
     let c = reply(c, 0x01, 0x01, &mut room);
-    let c = show(b"ask ", c.get_pending_request(absent(0)), c, &room);
+    let c = show(b"ask ", get_pending_request(c, absent(0)), c, &room);
     let c = reply(c, 0x06, 0x06, &mut room);
     end(c);
 }
@@ -183,20 +189,20 @@ fn timeouts() {
     let new = SdoClientConnection::new(5, 0);
     let c = came(
         b"read ",
-        new.start_read_job(0x2100, 1, 1, with_retries(0, 0)),
+        start_read_job(new, 0x2100, 1, 1, with_retries(0, 0)),
         new,
     );
-    let c = show(b"tick ", c.tick(with_retries(14999999, 0)), c, &room);
-    let c = show(b"tick ", c.tick(with_retries(15000000, 0)), c, &room);
+    let c = show(b"tick ", tick(c, with_retries(14999999, 0)), c, &room);
+    let c = show(b"tick ", tick(c, with_retries(15000000, 0)), c, &room);
     end(c);
     let d = came(
         b"read ",
-        new.start_read_job(0x2100, 1, 1, with_retries(0, 1)),
+        start_read_job(new, 0x2100, 1, 1, with_retries(0, 1)),
         new,
     );
-    let d = show(b"tick ", d.tick(with_retries(15000000, 1)), d, &room);
-    let d = show(b"tick ", d.tick(with_retries(29999999, 1)), d, &room);
-    let d = show(b"tick ", d.tick(with_retries(30000000, 1)), d, &room);
+    let d = show(b"tick ", tick(d, with_retries(15000000, 1)), d, &room);
+    let d = show(b"tick ", tick(d, with_retries(29999999, 1)), d, &room);
+    let d = show(b"tick ", tick(d, with_retries(30000000, 1)), d, &room);
     end(d);
 }
 
@@ -204,12 +210,12 @@ fn timeouts() {
 fn repeats() {
     let mut room = [0u8; 4096];
     let new = SdoClientConnection::new(5, 0);
-    let c = came(b"read ", new.start_read_job(0x2100, 1, 7, absent(0)), new);
-    let c = show(b"ask ", c.get_pending_request(absent(0)), c, &room);
-    let c = show(b"ask ", c.get_pending_request(absent(0)), c, &room);
-    let c = show(b"tick ", c.tick(absent(15000000)), c, &room);
-    let c = show(b"tick ", c.tick(absent(30000000)), c, &room);
-    let c = show(b"tick ", c.tick(absent(45000000)), c, &room);
+    let c = came(b"read ", start_read_job(new, 0x2100, 1, 7, absent(0)), new);
+    let c = show(b"ask ", get_pending_request(c, absent(0)), c, &room);
+    let c = show(b"ask ", get_pending_request(c, absent(0)), c, &room);
+    let c = show(b"tick ", tick(c, absent(15000000)), c, &room);
+    let c = show(b"tick ", tick(c, absent(30000000)), c, &room);
+    let c = show(b"tick ", tick(c, absent(45000000)), c, &room);
     end(c);
 }
 
@@ -221,16 +227,16 @@ fn rooms() {
     let over = codec::octets::part(&data, 0, 4093);
     let c = came(
         b"write 4093 ",
-        new.start_write_job(0x2100, 1, over, 1, absent(0), &mut room),
+        start_write_job(new, 0x2100, 1, over, 1, absent(0), &mut room),
         new,
     );
     let most = codec::octets::part(&data, 0, 4092);
     let c = came(
         b"write 4092 ",
-        c.start_write_job(0x2100, 1, most, 1, absent(0), &mut room),
+        start_write_job(c, 0x2100, 1, most, 1, absent(0), &mut room),
         c,
     );
-    let c = came(b"read ", c.start_read_job(0x2100, 1, 1, absent(0)), c);
+    let c = came(b"read ", start_read_job(c, 0x2100, 1, 1, absent(0)), c);
     end(c);
 }
 
@@ -241,12 +247,12 @@ fn refusals() {
     let three = [2u8, 0, 0];
     let c = came(
         b"dcf ",
-        new.start_concise_dcf_job(&three, 1, absent(0), &mut room),
+        start_concise_dcf_job(new, &three, 1, absent(0), &mut room),
         new,
     );
     let c = came(
         b"read ",
-        c.start_read_job(0x2100, 1, 1, absent(18446744073709551615)),
+        start_read_job(c, 0x2100, 1, 1, absent(18446744073709551615)),
         c,
     );
     end(c);

@@ -6,9 +6,9 @@ use mathlib.Core.List.{_∷_}
 use lib.ListN.{length, getD}
 use lib.Seq.{slice, slice-cons, slice-empty}
 use Rattle.manager.specs.Calls.{leastDeadline, sooner}
-use Rattle.manager.specs.Table.{Lived, live}
+use Rattle.table.specs.Table.{Lived, live}
 use Rattle.manager.specs.Types.{Deadline, SdoClientConnection, SdoClientManager}
-use Rattle.manager.proofs.Tables.{Connections}
+use Rattle.table.proofs.Tables.{Connections}
 
 -- the sooner of two
 module _ (a b : Deadline) (x : ℕ) (e : a ≡ Deadline.At x) where

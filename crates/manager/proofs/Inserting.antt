@@ -9,10 +9,10 @@ use lib.Dec.{ltb}
 use lib.ListN.{length, take, getD, set, length-append, length-replicate}
 use lib.Seq.{drop-append-le, getD-set-same, length-take-le, slice-empty, take-append-le, take-take}
 use Rattle.laws.specs.Pick.{pick}
-use Rattle.manager.specs.Table.{Lived, blank, insertAt, insertIn, live, padded, placeIn, tableOf}
+use Rattle.table.specs.Table.{Lived, blank, insertAt, insertIn, live, padded, placeIn, tableOf}
 use Rattle.manager.specs.Types.{SdoClientConnection, SdoClientManager}
-use Rattle.manager.proofs.Tables.{Connections, live-length, push}
-use Rattle.manager.proofs.Filling.{Filling, fill}
+use Rattle.table.proofs.Tables.{Connections, live-length, push}
+use Rattle.table.proofs.Filling.{Filling, fill}
 
 place-le : (node : ℕ) (l : Connections) → placeIn node l ≤ length l
 unfolding pick

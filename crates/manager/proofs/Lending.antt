@@ -8,7 +8,7 @@ use lib.ListN.{length, take, drop, length-take, length-drop}
 use lib.Seq.{drop-drop}
 use Rattle.codec.specs.Bytes.{Bytes, placed}
 use Rattle.manager.specs.Calls.{roomIn, withRoom}
-use Rattle.manager.specs.Table.{roomStart}
+use Rattle.table.specs.Table.{roomStart}
 use Rattle.manager.specs.Types.{SdoClientConnection}
 
 -- the part that is lent, from its start to 4,096 bytes further

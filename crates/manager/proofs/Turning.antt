@@ -11,10 +11,10 @@ use borrow.Author.Tests.{eqb-true, leb-true, leb-false}
 use Rattle.laws.specs.Pick.{pick}
 use Rattle.codec.specs.Bytes.{Bytes}
 use Rattle.codec.specs.Writing.{bufferAfter}
-use Rattle.connection.specs.Payload.{payloadOf}
-use Rattle.connection.specs.Record.{newConnection}
-use Rattle.manager.specs.Calls.{refusing, leaving, roomIn, sentTo, walkedTo, walkedManager, walkedOutput, heldAt, repliedAs, HasPlace, Job, jobRoom, numberOf, seatAt, seatOf, startAt, startDone, startJob, startStore, startStoreAt, startedBy, startedHeld, startedNew, takesNumber, targetAt, targetOf, withRoom}
-use Rattle.manager.specs.Table.{blank, live, tableOf, findIn, freeRoom, storeSize}
+use Rattle.sdo.specs.Payload.{payloadOf}
+use Rattle.sdo.specs.Record.{newConnection}
+use Rattle.manager.specs.Calls.{refusing, leaving, roomIn, sentTo, walkedTo, walkedManager, walkedOutput, repliedAs, HasPlace, Job, jobRoom, numberOf, seatAt, seatOf, startAt, startDone, startJob, startStore, startStoreAt, startedBy, startedHeld, startedNew, takesNumber, withRoom}
+use Rattle.table.specs.Table.{blank, live, tableOf, findIn, freeRoom, storeSize, heldAt, targetAt, targetOf}
 use Rattle.manager.specs.Types.{
   Answer,
   Changed,
@@ -34,7 +34,7 @@ use Rattle.manager.specs.Types.{
   Walk,
   Walked,
 }
-use Rattle.manager.specs.Walk.{Walking, refused, through, stopped, passed, stopOr, turned, walkStep, walkList, walkAnswer, walkOf}
+use Rattle.table.specs.Walk.{Walking, refused, through, stopped, passed, stopOr, turned, walkStep, walkList, walkAnswer, walkOf}
 
 -- the list that a table holds comes back
 pub live-table : (l : List SdoClientConnection) (number : ℕ) → live (tableOf l number) ≡ l

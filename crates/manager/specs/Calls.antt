@@ -9,23 +9,13 @@ use lib.ListN.{length, take, drop, getD, set}
 use Rattle.laws.specs.Pick.{pick}
 use Rattle.codec.specs.Bytes.{Bytes, placed}
 use Rattle.codec.specs.Writing.{bufferAfter}
-use Rattle.connection.specs.Commands.{sequenceOf, commandOf}
-use Rattle.connection.specs.Payload.{payloadOf}
-use Rattle.connection.specs.Record.{newConnection}
-use Rattle.connection.specs.Reply.{nextTransaction, replyOf, replied, roomAfter}
+use Rattle.sdo.specs.Commands.{sequenceOf, commandOf}
+use Rattle.sdo.specs.Payload.{payloadOf}
+use Rattle.sdo.specs.Record.{newConnection, nextTransaction}
+use Rattle.exchange.specs.Reply.{replyOf, replied, roomAfter}
 use Rattle.connection.specs.Start.{startRead, startWrite, startDcf, roomWith}
-use Rattle.manager.specs.Sweep.{running, endsIn, endsOf, noEnds}
-use Rattle.manager.specs.Table.{
-  blank,
-  findIn,
-  freeRoom,
-  insertIn,
-  live,
-  roomSize,
-  roomStart,
-  storeSize,
-  tableOf,
-}
+use Rattle.table.specs.Sweep.{running, endsIn, endsOf, noEnds}
+use Rattle.table.specs.Table.{blank, findIn, freeRoom, heldAt, insertIn, live, roomSize, roomStart, storeSize, tableOf, targetOf}
 use Rattle.manager.specs.Types.{
   Answer,
   Changed,
@@ -44,7 +34,7 @@ use Rattle.manager.specs.Types.{
   Turn,
   Walk,
 }
-use Rattle.manager.specs.Walk.{Walking, refused, through, stopped, walkList}
+use Rattle.table.specs.Walk.{Walking, refused, through, stopped, walkList}
 
 -- a call that refuses: the manager that it leaves, no command, no end
 abbrev pub refusing : SdoClientManager → Refusal → Done
@@ -99,10 +89,6 @@ turnOutput t m n store output =
 
 -- ---- reply
 
--- the connection at a place of the table
-abbrev pub heldAt : SdoClientManager → ℕ → SdoClientConnection
-heldAt m k = getD (live m) k blank
-
 abbrev pub repliedAs : Changed → ℕ → SdoClientManager → Done
 repliedAs (Changed.Connection d) k m = leaving (set (live m) k d) (m .«next_transaction_id») Answer.Nothing
 repliedAs (Changed.Refused r) k m = refusing m r
@@ -153,15 +139,6 @@ jobRoom (loads dcf) answer room = roomWith answer dcf room
 abbrev pub stepped : SdoClientManager → SdoClientManager
 stepped m =
     record { connections = m .connections; count = m .count; «next_transaction_id» = nextTransaction (m .«next_transaction_id») }
-
--- whose job it is: a connection held, at its place; a new one, with a free room; or nobody's, where eight are held
-abbrev pub targetAt : Found → SdoClientManager → ℕ → Target
-targetAt (Found.At k) m node = Target.Held k (heldAt m k)
-targetAt Found.Absent m node =
-    pick (leb 8 (length (live m))) Target.Full (Target.New (newConnection node (freeRoom (live m))))
-
-unfoldable pub targetOf : SdoClientManager → ℕ → Target
-targetOf m node = targetAt (findIn node (live m)) m node
 
 -- 4 and 5 take a transaction number; 5 for a new node enters an Idle connection
 abbrev pub takesNumber : Refusal → Bool

@@ -1,5 +1,2 @@
 pub mod Calls
-pub mod Sweep
-pub mod Table
 pub mod Types
-pub mod Walk

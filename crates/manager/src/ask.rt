@@ -9,25 +9,25 @@ ghost use Rattle.manager.specs.Calls.{
   turnOf,
   turnOutput,
 };
-ghost use Rattle.manager.specs.Table.{live};
+ghost use Rattle.table.specs.Table.{live};
 use crate::room::room_in;
-use crate::sweep::ends_of;
-use crate::sweep::swept;
-use crate::table::held_at;
 use crate::types::Answer;
 use crate::types::Done;
-use crate::types::SdoClientManager;
 use crate::types::SentTo;
-use crate::types::Turn;
-use crate::types::Walk;
-use crate::types::Walked;
-use crate::types::no_ends;
-use crate::walk::walk;
 use codec::refusal::Refusal;
-use connection::payload::write_payload;
-use connection::types::Now;
-use connection::types::Outgoing;
-use connection::types::SdoClientConnection;
+use sdo::Now;
+use sdo::Outgoing;
+use sdo::SdoClientConnection;
+use sdo::payload::write_payload;
+use table::held::held_at;
+use table::sweep::ends_of;
+use table::sweep::swept;
+use table::types::SdoClientManager;
+use table::types::Turn;
+use table::types::Walk;
+use table::types::Walked;
+use table::types::no_ends;
+use table::walk::walk;
 
 // A call that refuses.
 pub(crate) fn refusing(m: SdoClientManager, r: Refusal) -> Done
@@ -109,23 +109,21 @@ fn sent_to(c: SdoClientConnection, o: Outgoing) -> Answer
     })
 }
 
-impl SdoClientManager {
-    // What is to be sent next, to whom, its payload at the start of the output; and the jobs that are done. Call it when a frame can go
-    // out. 9 for a store that isn't 32,768 bytes, 1 for an output under 1,452, 8 where a deadline on the walk does not fit; then nothing
-    // has happened.
-    pub fn get_pending_request(self, when: Now, store: &[u8], output: &mut [u8]) -> Done
-        ensures { λ d. ⌜ d ≡ turnOf Turn.Asking self «when» (now (store .entry)) (now (output .entry)) ⌝ }
-        ensures { λ _. ⌜ now (output .exit) ≡ turnOutput Turn.Asking self «when» (now (store .entry)) (now (output .entry)) ⌝ }
-    {
-        turn(Turn::Asking, self, when, store, output)
-    }
+// What is to be sent next, to whom, its payload at the start of the output; and the jobs that are done. Call it when a frame can go
+// out. 9 for a store that isn't 32,768 bytes, 1 for an output under 1,452, 8 where a deadline on the walk does not fit; then nothing
+// has happened.
+pub fn get_pending_request(m: SdoClientManager, when: Now, store: &[u8], output: &mut [u8]) -> Done
+    ensures { λ d. ⌜ d ≡ turnOf Turn.Asking m «when» (now (store .entry)) (now (output .entry)) ⌝ }
+    ensures { λ _. ⌜ now (output .exit) ≡ turnOutput Turn.Asking m «when» (now (store .entry)) (now (output .entry)) ⌝ }
+{
+    turn(Turn::Asking, m, when, store, output)
+}
 
-    // What the deadlines that have passed bring about: a repeat or an abort to send, and ends. Call it when next_action_time has come.
-    // Refusals as of get_pending_request.
-    pub fn tick(self, when: Now, store: &[u8], output: &mut [u8]) -> Done
-        ensures { λ d. ⌜ d ≡ turnOf Turn.Ticking self «when» (now (store .entry)) (now (output .entry)) ⌝ }
-        ensures { λ _. ⌜ now (output .exit) ≡ turnOutput Turn.Ticking self «when» (now (store .entry)) (now (output .entry)) ⌝ }
-    {
-        turn(Turn::Ticking, self, when, store, output)
-    }
+// What the deadlines that have passed bring about: a repeat or an abort to send, and ends. Call it when next_action_time has come.
+// Refusals as of get_pending_request.
+pub fn tick(m: SdoClientManager, when: Now, store: &[u8], output: &mut [u8]) -> Done
+    ensures { λ d. ⌜ d ≡ turnOf Turn.Ticking m «when» (now (store .entry)) (now (output .entry)) ⌝ }
+    ensures { λ _. ⌜ now (output .exit) ≡ turnOutput Turn.Ticking m «when» (now (store .entry)) (now (output .entry)) ⌝ }
+{
+    turn(Turn::Ticking, m, when, store, output)
 }

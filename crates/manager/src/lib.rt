@@ -2,11 +2,9 @@
 // its jobs lie in a store of 32,768 bytes that the caller lends, a room of 4,096 for each connection held. Every function is total on any
 // manager and any slices.
 pub mod ask;
+pub(crate) mod enter;
 pub mod next;
 pub mod reply;
 pub(crate) mod room;
 pub mod start;
-pub(crate) mod sweep;
-pub(crate) mod table;
 pub mod types;
-pub(crate) mod walk;

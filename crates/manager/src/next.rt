@@ -2,10 +2,10 @@
 ghost use mathlib.Core.Path.{_≡_};
 ghost use Prim.Native.Nat.{min};
 ghost use Rattle.manager.specs.Calls.{sooner as soonerOf, leastDeadline};
-ghost use Rattle.manager.specs.Table.{live};
-use crate::table::lived;
-use crate::types::SdoClientManager;
-use connection::types::Deadline;
+ghost use Rattle.table.specs.Table.{live};
+use sdo::Deadline;
+use table::held::lived;
+use table::types::SdoClientManager;
 
 fn sooner(a: Deadline, b: Deadline) -> Deadline
     ensures { λ r. ⌜ r ≡ soonerOf a b ⌝ }
@@ -19,21 +19,19 @@ fn sooner(a: Deadline, b: Deadline) -> Deadline
     }
 }
 
-impl SdoClientManager {
-    // The least deadline of the connections held, or none. It changes with every start, reply, tick and ask.
-    pub fn next_action_time(self) -> Deadline
-        ensures { λ r. ⌜ r ≡ leastDeadline (live self) ⌝ }
-    {
-        let old = self.connections;
-        let mut i = lived(self);
-        let mut least = Deadline::Never;
-        while 0 < i {
-            i -= 1;
-            let c = old[i];
-            let waiting = c.waiting;
-            let deadline = waiting.deadline;
-            least = sooner(deadline, least);
-        }
-        least
+// The least deadline of the connections held, or none. It changes with every start, reply, tick and ask.
+pub fn next_action_time(m: SdoClientManager) -> Deadline
+    ensures { λ r. ⌜ r ≡ leastDeadline (live m) ⌝ }
+{
+    let old = m.connections;
+    let mut i = lived(m);
+    let mut least = Deadline::Never;
+    while 0 < i {
+        i -= 1;
+        let c = old[i];
+        let waiting = c.waiting;
+        let deadline = waiting.deadline;
+        least = sooner(deadline, least);
     }
+    least
 }

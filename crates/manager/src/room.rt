@@ -2,15 +2,18 @@
 ghost use mathlib.Core.Path.{_≡_};
 ghost use Prim.Native.Nat.{_≤_};
 ghost use lib.ListN.{length};
-ghost use Rattle.connection.specs.Reply.{replyOf, replied, roomAfter};
+ghost use Rattle.exchange.specs.Reply.{replyOf, replied, roomAfter};
 ghost use Rattle.connection.specs.Start.{startWrite, startDcf, roomWith};
 ghost use Rattle.manager.specs.Calls.{roomIn, withRoom};
-ghost use Rattle.manager.specs.Table.{roomStart};
+ghost use Rattle.table.specs.Table.{roomStart};
 use codec::command::SdoCommand;
 use codec::sequence::SequenceLayerHeader;
-use connection::types::Changed;
-use connection::types::Now;
-use connection::types::SdoClientConnection;
+use connection::start::start_concise_dcf_job;
+use connection::start::start_write_job;
+use exchange::reply::handle_response;
+use sdo::Changed;
+use sdo::Now;
+use sdo::SdoClientConnection;
 
 // Where a connection's room starts, within the store whatever the record says.
 fn room_start(c: SdoClientConnection) -> usize
@@ -43,7 +46,7 @@ pub(crate) fn write_in(
 {
     let a = room_start(c);
     let e = a + 4096;
-    c.start_write_job(index, sub_index, bytes, tid, when, &mut store[a..e])
+    start_write_job(c, index, sub_index, bytes, tid, when, &mut store[a..e])
 }
 
 pub(crate) fn dcf_in(
@@ -59,7 +62,7 @@ pub(crate) fn dcf_in(
 {
     let a = room_start(c);
     let e = a + 4096;
-    c.start_concise_dcf_job(dcf, tid, when, &mut store[a..e])
+    start_concise_dcf_job(c, dcf, tid, when, &mut store[a..e])
 }
 
 pub(crate) fn reply_in(
@@ -75,5 +78,5 @@ pub(crate) fn reply_in(
 {
     let a = room_start(c);
     let e = a + 4096;
-    c.handle_response(seq, cmd, payload, &mut store[a..e])
+    handle_response(c, seq, cmd, payload, &mut store[a..e])
 }

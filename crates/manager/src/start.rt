@@ -17,20 +17,21 @@ ghost use Rattle.manager.specs.Calls.{
 };
 use crate::ask::nothing_done;
 use crate::ask::refusing;
+use crate::enter::insert;
+use crate::enter::replace;
 use crate::room::dcf_in;
 use crate::room::write_in;
-use crate::table::insert;
-use crate::table::replace;
-use crate::table::target_of;
 use crate::types::Done;
-use crate::types::SdoClientManager;
 use crate::types::Seat;
-use crate::types::Target;
 use codec::refusal::Refusal;
-use connection::reply::next_transaction;
-use connection::types::Changed;
-use connection::types::Now;
-use connection::types::SdoClientConnection;
+use connection::start::start_read_job;
+use sdo::Changed;
+use sdo::Now;
+use sdo::SdoClientConnection;
+use sdo::numbers::next_transaction;
+use table::held::target_of;
+use table::types::SdoClientManager;
+use table::types::Target;
 
 // 4 and 5 take a transaction number.
 fn takes_number(r: Refusal) -> bool
@@ -121,67 +122,65 @@ fn seat_of(t: Target, store: usize) -> Seat
     Seat::Refused(Refusal::WrongStore)
 }
 
-impl SdoClientManager {
-    // Starts a concise DCF job for a node.
-    pub fn start_configuration_download(
-        self,
-        target: u8,
-        dcf: &[u8],
-        when: Now,
-        store: &mut [u8],
-    ) -> Done
-        ensures { λ d. ⌜ d ≡ startDone self target (loads (now (dcf .entry))) «when» (now (store .entry)) ⌝ }
-        ensures { λ _. ⌜ now (store .exit) ≡ startStore self target (loads (now (dcf .entry))) «when» (now (store .entry)) ⌝ }
-    {
-        let t = target_of(self, target);
-        let number = next_transaction(self.next_transaction_id);
-        match seat_of(t, store.len()) {
-            Seat::On(c) => started(dcf_in(c, dcf, number, when, store), t, self),
-            Seat::Refused(r) => refusing(self, r),
-        }
+// Starts a concise DCF job for a node.
+pub fn start_configuration_download(
+    m: SdoClientManager,
+    target: u8,
+    dcf: &[u8],
+    when: Now,
+    store: &mut [u8],
+) -> Done
+    ensures { λ d. ⌜ d ≡ startDone m target (loads (now (dcf .entry))) «when» (now (store .entry)) ⌝ }
+    ensures { λ _. ⌜ now (store .exit) ≡ startStore m target (loads (now (dcf .entry))) «when» (now (store .entry)) ⌝ }
+{
+    let t = target_of(m, target);
+    let number = next_transaction(m.next_transaction_id);
+    match seat_of(t, store.len()) {
+        Seat::On(c) => started(dcf_in(c, dcf, number, when, store), t, m),
+        Seat::Refused(r) => refusing(m, r),
     }
+}
 
-    // Starts a job that writes an object of a node.
-    pub fn write_object_by_index(
-        self,
-        target: u8,
-        index: u16,
-        sub_index: u8,
-        bytes: &[u8],
-        when: Now,
-        store: &mut [u8],
-    ) -> Done
-        ensures { λ d. ⌜ d ≡ startDone self target (writes index «sub_index» (now (bytes .entry))) «when» (now (store .entry)) ⌝ }
-        ensures { λ _. ⌜ now (store .exit) ≡ startStore self target (writes index «sub_index» (now (bytes .entry))) «when» (now (store .entry)) ⌝ }
-    {
-        let t = target_of(self, target);
-        let number = next_transaction(self.next_transaction_id);
-        match seat_of(t, store.len()) {
-            Seat::On(c) => started(
-                write_in(c, index, sub_index, bytes, number, when, store),
-                t,
-                self,
-            ),
-            Seat::Refused(r) => refusing(self, r),
-        }
+// Starts a job that writes an object of a node.
+pub fn write_object_by_index(
+    m: SdoClientManager,
+    target: u8,
+    index: u16,
+    sub_index: u8,
+    bytes: &[u8],
+    when: Now,
+    store: &mut [u8],
+) -> Done
+    ensures { λ d. ⌜ d ≡ startDone m target (writes index «sub_index» (now (bytes .entry))) «when» (now (store .entry)) ⌝ }
+    ensures { λ _. ⌜ now (store .exit) ≡ startStore m target (writes index «sub_index» (now (bytes .entry))) «when» (now (store .entry)) ⌝ }
+{
+    let t = target_of(m, target);
+    let number = next_transaction(m.next_transaction_id);
+    match seat_of(t, store.len()) {
+        Seat::On(c) => started(
+            write_in(c, index, sub_index, bytes, number, when, store),
+            t,
+            m,
+        ),
+        Seat::Refused(r) => refusing(m, r),
     }
+}
 
-    // Starts a job that reads an object of a node.
-    pub fn read_object_by_index(
-        self,
-        target: u8,
-        index: u16,
-        sub_index: u8,
-        when: Now,
-        store: &[u8],
-    ) -> Done
-        ensures { λ d. ⌜ d ≡ startDone self target (reads index «sub_index») «when» (now (store .entry)) ⌝ }
-    {
-        let t = target_of(self, target);
-        let number = next_transaction(self.next_transaction_id);
-        match seat_of(t, store.len()) {
-            Seat::On(c) => started(c.start_read_job(index, sub_index, number, when), t, self),
-            Seat::Refused(r) => refusing(self, r),
-        }
+// Starts a job that reads an object of a node.
+pub fn read_object_by_index(
+    m: SdoClientManager,
+    target: u8,
+    index: u16,
+    sub_index: u8,
+    when: Now,
+    store: &[u8],
+) -> Done
+    ensures { λ d. ⌜ d ≡ startDone m target (reads index «sub_index») «when» (now (store .entry)) ⌝ }
+{
+    let t = target_of(m, target);
+    let number = next_transaction(m.next_transaction_id);
+    match seat_of(t, store.len()) {
+        Seat::On(c) => started(start_read_job(c, index, sub_index, number, when), t, m),
+        Seat::Refused(r) => refusing(m, r),
     }
 }

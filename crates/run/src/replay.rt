@@ -1,11 +1,19 @@
-// The replay (document 01, "Replay"): records of 32 bytes, a line for each.
+// The replay (document 01, "Replay"): records of 32 bytes, a line for each. For comparisons each line is followed by the manager's state.
+use crate::parameters::Parameters;
+use crate::parameters::absent;
+use crate::parameters::read_parameters;
+use crate::state::Upload;
+use crate::state::byte;
+use crate::state::complete;
+use crate::state::print_state;
+use crate::state::upload_before;
 use codec::octets::part;
 use codec::sequence::Written;
-use connection::types::Parameter;
 use libc::STDIN_FILENO;
 use libc::STDOUT_FILENO;
-use manager::types::SdoClientManager;
-use trace::apply::Applied;
+use manager::types::Answer;
+use table::types::Ends;
+use table::types::SdoClientManager;
 use trace::apply::apply;
 use trace::line::write_line;
 
@@ -17,7 +25,7 @@ pub struct Run {
     pub text: usize,
 }
 
-pub(crate) fn started() -> Run {
+fn started() -> Run {
     Run {
         manager: SdoClientManager::new(),
         gathered: 0,
@@ -27,16 +35,16 @@ pub(crate) fn started() -> Run {
 }
 
 // As much of the input as there is, up to a piece.
-pub(crate) fn fill(input: &mut [u8; 65536]) -> usize {
+fn fill(input: &mut [u8; 65536]) -> usize {
     io::read_full(STDIN_FILENO, input)
 }
 
-// The first bytes of a piece, or of the text.
-pub(crate) fn first(b: &[u8; 65536], n: usize) -> &[u8] {
+// The first bytes of a piece.
+fn first(b: &[u8; 65536], n: usize) -> &[u8] {
     part(b, 0, n)
 }
 
-pub(crate) fn write_out(text: &[u8; 65536], n: usize) {
+fn write_out(text: &[u8; 65536], n: usize) {
     io::write_all(STDOUT_FILENO, part(text, 0, n));
 }
 
@@ -62,57 +70,96 @@ fn further(at: usize, w: Written) -> usize {
     at
 }
 
-// What a record came to, after its line was put into the text.
-pub(crate) fn told(
-    run: Run,
+// The record's line is put into the text; where it ends.
+fn told(
+    at: usize,
+    number: u16,
     b: &[u8],
-    applied: Applied,
+    answer: Answer,
+    ends: Ends,
     output: &[u8; 1452],
     text: &mut [u8; 65536],
-) -> Run {
-    if run.number == 65535 {
-        return run;
-    }
-    let number = run.number + 1;
-    let done = applied.done;
-    let manager = done.manager;
-    let answer = done.answer;
-    let ends = done.ends;
-    let at = flushed(text, run.text);
-    let w = write_line(text, at, number, b, answer, ends, output);
-    Run {
-        manager,
-        gathered: applied.gathered,
-        number,
-        text: further(at, w),
-    }
+) -> usize {
+    let from = flushed(text, at);
+    further(
+        from,
+        write_line(text, from, number, b, answer, ends, output),
+    )
 }
 
-// One record: applied, and its line written.
+// The bytes of the next record, which may be short.
+fn record_at(input: &[u8], at: usize) -> &[u8] {
+    if input.len() < at {
+        return part(input, 0, 0);
+    }
+    let left = input.len() - at;
+    part(input, at, if left < 32 { left } else { 32 })
+}
+
+// Where states are shown, the text goes out and the state after it; where the text ends then.
+fn shown(
+    states: bool,
+    at: usize,
+    m: SdoClientManager,
+    u: Upload,
+    ended: bool,
+    store: &[u8; 32768],
+    text: &[u8; 65536],
+) -> usize {
+    if states {
+        write_out(text, at);
+        print_state(m, u, ended, store);
+        return 0;
+    }
+    at
+}
+
+// One record: applied, and its line written. At most 65,535 are read.
 fn one(
     run: Run,
+    p: Parameters,
     b: &[u8],
     store: &mut [u8; 32768],
     gather: &mut [u8; 4112],
     output: &mut [u8; 1452],
     text: &mut [u8; 65536],
 ) -> Run {
-    let manager = run.manager;
+    if run.number == 65535 {
+        return run;
+    }
+    let number = run.number + 1;
+    let timeout = p.timeout;
+    let retries = p.retries;
+    let before = run.manager;
+    let upload = upload_before(p.states, before, run.gathered, b);
     let applied = apply(
-        manager,
+        before,
         run.gathered,
         b,
-        Parameter::Absent,
-        Parameter::Absent,
+        timeout,
+        retries,
         store,
         gather,
         output,
     );
-    told(run, b, applied, output, text)
+    let done = applied.done;
+    let manager = done.manager;
+    let answer = done.answer;
+    let ends = done.ends;
+    let end = told(run.text, number, b, answer, ends, output, text);
+    let ended = complete(ends, byte(b, 1));
+    Run {
+        manager,
+        gathered: applied.gathered,
+        number,
+        text: shown(p.states, end, manager, upload, ended, store, text),
+    }
 }
 
+// The records of a piece.
 fn piece(
     run: Run,
+    p: Parameters,
     input: &[u8],
     store: &mut [u8; 32768],
     gather: &mut [u8; 4112],
@@ -122,29 +169,16 @@ fn piece(
     let mut r = run;
     let mut at: usize = 0;
     while at < input.len() {
-        if r.number == 65535 {
+        r = one(r, p, record_at(input, at), store, gather, output, text);
+        if input.len() - at < 32 {
             break;
         }
-        if input.len() - at < 32 {
-            return one(
-                r,
-                part(input, at, input.len() - at),
-                store,
-                gather,
-                output,
-                text,
-            );
-        }
-        r = one(r, part(input, at, 32), store, gather, output, text);
         at += 32;
     }
     r
 }
 
-// Replays standard input; timeout and retries are absent.
-pub fn replay()
-    ensures { λ _. ⊤ₛ }
-{
+fn run_by(p: Parameters) {
     let mut store = [0u8; 32768];
     let mut gather = [0u8; 4112];
     let mut output = [0u8; 1452];
@@ -157,6 +191,7 @@ pub fn replay()
         let n = fill(&mut input);
         run = piece(
             run,
+            p,
             first(&input, n),
             &mut store,
             &mut gather,
@@ -169,4 +204,18 @@ pub fn replay()
         pieces += 1;
     }
     write_out(&text, run.text);
+}
+
+// Replays standard input; timeout and retries are absent.
+pub fn replay()
+    ensures { λ _. ⊤ₛ }
+{
+    run_by(absent());
+}
+
+// Replays standard input with the parameters at its head, and shows the manager's state after each record.
+pub fn replay_states()
+    ensures { λ _. ⊤ₛ }
+{
+    run_by(read_parameters());
 }

@@ -1,14 +1,15 @@
 // The manager's state on a line of its own, for comparisons: `= NEXT HELD READ` (docs/TRACES.md).
 ghost use Prim.Native.Nat.{_<_};
 use codec::octets::part;
-use connection::types::Deadline;
-use connection::types::LoadedTransfer;
-use connection::types::Reason;
-use connection::types::SdoClientConnection;
-use connection::types::SdoClientConnectionState;
 use libc::STDOUT_FILENO;
-use manager::types::Ends;
-use manager::types::SdoClientManager;
+use manager::next::next_action_time;
+use sdo::Deadline;
+use sdo::LoadedTransfer;
+use sdo::Reason;
+use sdo::SdoClientConnection;
+use sdo::SdoClientConnectionState;
+use table::types::Ends;
+use table::types::SdoClientManager;
 
 // An upload that a reply may end: its room, and how many bytes it will have brought.
 pub enum Upload {
@@ -145,8 +146,11 @@ fn upload_of(c: SdoClientConnection, more: usize) -> Upload {
     Upload::Nothing
 }
 
-// The upload of the node that a record replies for.
-pub(crate) fn upload_before(m: SdoClientManager, gathered: usize, b: &[u8]) -> Upload {
+// The upload of the node that a record replies for, where states are shown.
+pub(crate) fn upload_before(shown: bool, m: SdoClientManager, gathered: usize, b: &[u8]) -> Upload {
+    if !shown {
+        return Upload::Nothing;
+    }
     let list = m.connections;
     if byte(b, 0) != 4 {
         return Upload::Nothing;
@@ -204,7 +208,7 @@ fn read(u: Upload, ended: bool, store: &[u8]) {
 
 pub(crate) fn print_state(m: SdoClientManager, u: Upload, ended: bool, store: &[u8]) {
     text(b"= ");
-    deadline(m.next_action_time());
+    deadline(next_action_time(m));
     text(b" ");
     held(m, store);
     text(b" ");

@@ -11,28 +11,13 @@ use borrow.Author.Tests.{eqb-true, eqb-false, ltb-false}
 use Rattle.laws.specs.Pick.{pick}
 use Rattle.codec.specs.Bytes.{Bytes}
 use Rattle.codec.specs.Writing.{bufferAfter}
-use Rattle.connection.specs.Payload.{payloadOf}
-use Rattle.connection.specs.Reply.{replied, replyOf, roomAfter}
-use Rattle.connection.proofs.Choices.{decided}
-use Rattle.manager.specs.Calls.{
-  heldAt,
-  refusing,
-  repliedAs,
-  replyAt,
-  replyDone,
-  replyStore,
-  roomIn,
-  sentTo,
-  storeAt,
-  turnOf,
-  turnOutput,
-  walkedOutput,
-  walkedTo,
-  withRoom,
-}
-use Rattle.manager.specs.Sweep.{endsIn, endsOf, running}
-use Rattle.manager.specs.Table.{blank, findIn, live, oneFurther, storeSize, tableOf}
-use Rattle.manager.specs.Walk.{Walking, refused, stopped, through, walkList}
+use Rattle.sdo.specs.Payload.{payloadOf}
+use Rattle.exchange.specs.Reply.{replied, replyOf, roomAfter}
+use Rattle.laws.proofs.Choices.{decided}
+use Rattle.manager.specs.Calls.{refusing, repliedAs, replyAt, replyDone, replyStore, roomIn, sentTo, storeAt, turnOf, turnOutput, walkedOutput, walkedTo, withRoom}
+use Rattle.table.specs.Sweep.{endsIn, endsOf, running}
+use Rattle.table.specs.Table.{blank, findIn, live, oneFurther, storeSize, tableOf, heldAt}
+use Rattle.table.specs.Walk.{Walking, refused, stopped, through, walkList}
 use Rattle.theorems.specs.Run.{after, reported}
 use Rattle.theorems.specs.Types.{
   Answer,

@@ -10,11 +10,11 @@ use lib.Dec.{ltb, leb}
 use lib.ListN.{length}
 use borrow.Author.Tests.{leb-true, leb-false, ltb-true, ltb-false}
 use Rattle.codec.specs.Bytes.{Bytes}
-use Rattle.connection.specs.Deadline.{deadlineOf, due, latest}
+use Rattle.sdo.specs.Deadline.{deadlineOf, due, latest}
 use Rattle.connection.specs.Start.{capacity, isIdle, startDcf, startRead, startWrite, started, startedAt}
-use Rattle.connection.proofs.Choices.{decided}
+use Rattle.laws.proofs.Choices.{decided}
 use Rattle.manager.specs.Calls.{Job, loads, reads, startJob, writes}
-use Rattle.manager.specs.Table.{roomSize}
+use Rattle.table.specs.Table.{roomSize}
 use Rattle.theorems.specs.Causes.{Check, First, OutOfRange, check, jobChecks}
 use Rattle.theorems.specs.Types.{
   Answer,

@@ -4,13 +4,13 @@ use mathlib.Core.Path.{_≡_, refl, sym, _∙_, subst}
 use mathlib.Core.List.{List, [], _∷_}
 use lib.ListN.{length, set}
 use Rattle.codec.specs.Bytes.{Bytes, placed}
-use Rattle.connection.specs.Delivery.{For, pieces}
-use Rattle.connection.specs.Jobs.{Job as Sends, bytesOf, counted, entriesOf, loads, startOf, writes}
-use Rattle.connection.proofs.Carrying.{Aim, beginning, joinedBy}
-use Rattle.connection.proofs.Delivered.{joined-both}
-use Rattle.connection.proofs.Starting.{Begun, aimOf, begun}
-use Rattle.manager.specs.Calls.{heldAt, jobRoom, numberOf, roomIn, startJob}
-use Rattle.manager.specs.Table.{blank, freeRoom, insertIn, live, storeSize, tableOf}
+use Rattle.exchange.specs.Delivery.{For, pieces}
+use Rattle.exchange.specs.Jobs.{Job as Sends, bytesOf, counted, entriesOf, loads, startOf, writes}
+use Rattle.exchange.proofs.Carrying.{Aim, beginning, joinedBy}
+use Rattle.exchange.proofs.Delivered.{joined-both}
+use Rattle.exchange.proofs.Starting.{Begun, aimOf, begun}
+use Rattle.manager.specs.Calls.{jobRoom, numberOf, roomIn, startJob}
+use Rattle.table.specs.Table.{blank, freeRoom, insertIn, live, storeSize, tableOf, heldAt}
 use Rattle.theorems.specs.Demand.{Log, asked, endFor, follow, jobOf, unlessEnded}
 use Rattle.theorems.specs.Run.{After, Call, called, starts}
 use Rattle.theorems.specs.Sound.{All, Slotted, Sound}

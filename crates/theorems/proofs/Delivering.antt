@@ -8,14 +8,14 @@ use mathlib.Core.List.{List, []}
 use lib.ListN.{length, set}
 use Rattle.laws.specs.Pick.{pick}
 use Rattle.codec.specs.Bytes.{Bytes}
-use Rattle.connection.specs.Reply.{replied, replyOf, roomAfter}
+use Rattle.exchange.specs.Reply.{replied, replyOf, roomAfter}
 use Rattle.connection.specs.Start.{isIdle, startDcf, startRead, startWrite}
-use Rattle.connection.proofs.Answering.{reply-kept}
-use Rattle.connection.proofs.Carrying.{Aim, Left, Replied, Sending, joinedBy}
-use Rattle.manager.specs.Calls.{Job, heldAt, loads, numberOf, reads, roomIn, startJob, withRoom, writes}
-use Rattle.manager.specs.Sweep.{endsIn, running}
-use Rattle.manager.specs.Table.{freeRoom, insertIn, live, roomSize, storeSize, tableOf}
-use Rattle.manager.specs.Walk.{Walking, stopped, through, walkList}
+use Rattle.exchange.proofs.Answering.{reply-kept}
+use Rattle.exchange.proofs.Carrying.{Aim, Left, Replied, Sending, joinedBy}
+use Rattle.manager.specs.Calls.{Job, loads, numberOf, reads, roomIn, startJob, withRoom, writes}
+use Rattle.table.specs.Sweep.{endsIn, running}
+use Rattle.table.specs.Table.{freeRoom, insertIn, live, roomSize, storeSize, tableOf, heldAt}
+use Rattle.table.specs.Walk.{Walking, stopped, through, walkList}
 use Rattle.theorems.specs.Demand.{asked, endFor, givenTo}
 use Rattle.theorems.specs.Run.{After, Call, asks, called, replies, starts, ticks}
 use Rattle.theorems.specs.Types.{

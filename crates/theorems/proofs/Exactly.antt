@@ -9,27 +9,11 @@ use lib.Dec.{ltb, leb, eqb}
 use lib.ListN.{length}
 use borrow.Author.Tests.{eqb-true, eqb-false, leb-true, leb-false, ltb-true, ltb-false}
 use Rattle.codec.specs.Bytes.{Bytes}
-use Rattle.connection.specs.Reply.{replied, replyOf}
-use Rattle.connection.proofs.Choices.{decided}
-use Rattle.manager.specs.Calls.{
-  Job,
-  heldAt,
-  numberOf,
-  repliedAs,
-  replyAt,
-  replyDone,
-  roomIn,
-  startAt,
-  startDone,
-  startedHeld,
-  startedNew,
-  targetAt,
-  targetOf,
-  turnOf,
-  walkedTo,
-}
-use Rattle.manager.specs.Table.{blank, findIn, freeRoom, live, storeSize}
-use Rattle.manager.specs.Walk.{Walking, refused, stopped, through, walkList}
+use Rattle.exchange.specs.Reply.{replied, replyOf}
+use Rattle.laws.proofs.Choices.{decided}
+use Rattle.manager.specs.Calls.{Job, numberOf, repliedAs, replyAt, replyDone, roomIn, startAt, startDone, startedHeld, startedNew, turnOf, walkedTo}
+use Rattle.table.specs.Table.{blank, findIn, freeRoom, live, storeSize, heldAt, targetAt, targetOf}
+use Rattle.table.specs.Walk.{Walking, refused, stopped, through, walkList}
 use Rattle.theorems.specs.Causes.{
   BusyAs,
   Check,

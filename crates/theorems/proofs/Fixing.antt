@@ -6,10 +6,10 @@ use lib.ListN.{length, take}
 use Rattle.codec.specs.Bytes.{Bytes}
 use Rattle.codec.specs.Dcf.{dcfStep}
 use Rattle.connection.specs.Ask.{quiet, givenAt, given, askRead, askFirst, askLater, askIn, askFree, askOf}
-use Rattle.connection.specs.Deadline.{deadlineOf}
-use Rattle.connection.specs.Parts.{total}
-use Rattle.connection.specs.Record.{ended}
-use Rattle.connection.specs.Reply.{
+use Rattle.sdo.specs.Deadline.{deadlineOf}
+use Rattle.sdo.specs.Parts.{total}
+use Rattle.sdo.specs.Record.{ended}
+use Rattle.exchange.specs.Reply.{
   cleared,
   receiveInitializes,
   replyFirst,
@@ -48,7 +48,7 @@ use Rattle.theorems.specs.Types.{
   SequenceLayerHeader,
   Stepped,
 }
-use Rattle.connection.proofs.Choices.{either}
+use Rattle.laws.proofs.Choices.{either}
 
 -- the second connection has the node and the room of the first
 abbrev pub Same : Connection → Connection → Type 0

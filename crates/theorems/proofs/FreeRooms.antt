@@ -8,8 +8,8 @@ use lib.Dec.{eqb}
 use lib.ListN.{length}
 use borrow.Author.Tests.{eqb-true, eqb-false, ne-eqb}
 use Rattle.laws.specs.Pick.{pick}
-use Rattle.connection.proofs.Choices.{either}
-use Rattle.manager.specs.Table.{freeFrom, freeRoom, roomSize, usesRoom}
+use Rattle.laws.proofs.Choices.{either}
+use Rattle.table.specs.Table.{freeFrom, freeRoom, roomSize, usesRoom}
 use Rattle.theorems.specs.Types.{SdoClientConnection as Connection}
 use Rattle.theorems.proofs.Alls.{All}
 use Rattle.theorems.proofs.Rooms.{Slotted}

@@ -6,11 +6,11 @@ use lib.Dec.{ltb, leb}
 use lib.ListN.{length}
 use borrow.Author.Tests.{leb-true}
 use Rattle.codec.specs.Bytes.{Bytes}
-use Rattle.connection.specs.Reply.{replied, replyOf, roomAfter}
+use Rattle.exchange.specs.Reply.{replied, replyOf, roomAfter}
 use Rattle.connection.specs.Start.{capacity, isIdle, roomWith, startDcf, startWrite}
-use Rattle.connection.proofs.Choices.{decided, either}
-use Rattle.connection.proofs.ReplySound.{placed-length}
-use Rattle.connection.proofs.Storing.{StoresWithin, stores-within}
+use Rattle.laws.proofs.Choices.{decided, either}
+use Rattle.exchange.proofs.ReplySound.{placed-length}
+use Rattle.exchange.proofs.Storing.{StoresWithin, stores-within}
 use Rattle.manager.specs.Calls.{Job, jobRoom, loads, reads, startJob, writes}
 use Rattle.theorems.specs.Types.{
   Changed,

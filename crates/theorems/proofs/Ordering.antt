@@ -7,10 +7,10 @@ use mathlib.Core.List.{List, [], _∷_}
 use lib.Dec.{ltb}
 use lib.ListN.{getD}
 use borrow.Author.Tests.{ltb-true, ltb-false}
-use Rattle.connection.specs.Record.{endOf}
-use Rattle.connection.proofs.Choices.{decided}
-use Rattle.manager.specs.Sweep.{running, unlessEnd}
-use Rattle.manager.specs.Table.{blank, insertAt, insertIn, placeIn}
+use Rattle.sdo.specs.Record.{endOf}
+use Rattle.laws.proofs.Choices.{decided}
+use Rattle.table.specs.Sweep.{running, unlessEnd}
+use Rattle.table.specs.Table.{blank, insertAt, insertIn, placeIn}
 use Rattle.theorems.specs.Sound.{All, Before, Ordered, Slotted}
 use Rattle.theorems.specs.Types.{EndFound, SdoClientConnection as Connection}
 use Rattle.theorems.proofs.Alls.{Each, all-at, all-insert}

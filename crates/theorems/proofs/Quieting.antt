@@ -9,13 +9,13 @@ use lib.ListN.{length, getD, set}
 use borrow.Author.Tests.{eqb-true, ne-eqb}
 use Rattle.laws.specs.Pick.{pick}
 use Rattle.codec.specs.Bytes.{Bytes}
-use Rattle.connection.specs.Consistent.{isEnded}
-use Rattle.connection.specs.Record.{endWith}
-use Rattle.connection.specs.Reply.{replied, replyOf, roomAfter}
-use Rattle.connection.proofs.Choices.{either}
-use Rattle.manager.specs.Calls.{Job, heldAt, numberOf, roomIn, stepped, withRoom}
-use Rattle.manager.specs.Sweep.{running, unlessEnd}
-use Rattle.manager.specs.Table.{blank, findIn, freeRoom, insertAt, insertIn, live, oneFurther, roomSize, storeSize, tableOf}
+use Rattle.exchange.specs.Consistent.{isEnded}
+use Rattle.sdo.specs.Record.{endWith}
+use Rattle.exchange.specs.Reply.{replied, replyOf, roomAfter}
+use Rattle.laws.proofs.Choices.{either}
+use Rattle.manager.specs.Calls.{Job, numberOf, roomIn, stepped, withRoom}
+use Rattle.table.specs.Sweep.{running, unlessEnd}
+use Rattle.table.specs.Table.{blank, findIn, freeRoom, insertAt, insertIn, live, oneFurther, roomSize, storeSize, tableOf, heldAt}
 use Rattle.theorems.specs.Quiet.{Holding, Leaves, QuietOthers, connection, holding, holdingAt, nothing}
 use Rattle.theorems.specs.Run.{Host, called, reached, replies, starts}
 use Rattle.theorems.specs.Sound.{All, Reached, Sane, Slotted, Sound}

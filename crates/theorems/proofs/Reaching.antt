@@ -3,8 +3,8 @@ use native.Mathlib.Omega.{arith}
 use mathlib.Core.Path.{refl}
 use mathlib.Core.List.{List, [], _∷_}
 use Rattle.codec.specs.Bytes.{Bytes}
-use Rattle.manager.specs.Table.{newManager}
-use Rattle.manager.specs.Walk.{stopped, through}
+use Rattle.table.specs.Table.{newManager}
+use Rattle.table.specs.Walk.{stopped, through}
 use Rattle.theorems.specs.Demand.{Demand3}
 use Rattle.theorems.specs.Run.{Call, Host, asks, called, reached, replies, run, starts, ticks}
 use Rattle.theorems.specs.Sound.{Reached, Sound}

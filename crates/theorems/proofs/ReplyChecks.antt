@@ -7,7 +7,7 @@ use lib.Dec.{leb, eqb}
 use lib.ListN.{length}
 use borrow.Author.Tests.{eqb-true, eqb-false, leb-true, leb-false}
 use Rattle.codec.specs.Bytes.{Bytes}
-use Rattle.connection.specs.Reply.{
+use Rattle.exchange.specs.Reply.{
   cleared,
   replyFirst,
   replyIn,
@@ -18,8 +18,8 @@ use Rattle.connection.specs.Reply.{
   storedLast,
   storedMore,
 }
-use Rattle.connection.proofs.Choices.{decided}
-use Rattle.manager.specs.Table.{roomSize}
+use Rattle.laws.proofs.Choices.{decided}
+use Rattle.table.specs.Table.{roomSize}
 use Rattle.theorems.specs.Causes.{Accepted, Past}
 use Rattle.theorems.specs.Types.{
   Decision,

@@ -5,11 +5,11 @@ use mathlib.Core.Path.{_≡_, subst}
 use mathlib.Core.List.{List, [], _∷_}
 use lib.ListN.{length, set}
 use Rattle.codec.specs.Bytes.{Bytes}
-use Rattle.connection.specs.Record.{endWith}
-use Rattle.manager.specs.Calls.{heldAt, roomIn}
-use Rattle.manager.specs.Sweep.{endsIn, withEnd}
-use Rattle.manager.specs.Table.{live}
-use Rattle.manager.specs.Walk.{Walking, stopped, through, walkList}
+use Rattle.sdo.specs.Record.{endWith}
+use Rattle.manager.specs.Calls.{roomIn}
+use Rattle.table.specs.Sweep.{endsIn, withEnd}
+use Rattle.table.specs.Table.{live, heldAt}
+use Rattle.table.specs.Walk.{Walking, stopped, through, walkList}
 use Rattle.theorems.specs.Reports.{Ascending, Reports}
 use Rattle.theorems.specs.Run.{Call, Host, asks, called, reached, replies, starts, ticks}
 use Rattle.theorems.specs.Sound.{All, Before, Ordered, Reached, Sound}

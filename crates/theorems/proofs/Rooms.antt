@@ -9,8 +9,8 @@ use lib.ListN.{length, take, drop, length-append, length-take, length-drop, take
 use lib.Seq.{length-take-le, take-append-le, drop-append-le, drop-append-add, drop-drop, drop-at, take-append-seam}
 use borrow.Author.Tests.{ltb-true, ltb-false}
 use Rattle.codec.specs.Bytes.{Bytes, placed}
-use Rattle.connection.proofs.ReplySound.{placed-length}
-use Rattle.manager.specs.Table.{lastRoom, roomSize, storeSize}
+use Rattle.exchange.proofs.ReplySound.{placed-length}
+use Rattle.table.specs.Table.{lastRoom, roomSize, storeSize}
 pub use Rattle.theorems.specs.Sound.{Slotted}
 
 -- the bytes of the room that starts there

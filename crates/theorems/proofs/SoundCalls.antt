@@ -6,17 +6,17 @@ use mathlib.Core.List.{List, [], _∷_}
 use lib.ListN.{length, set, length-set}
 use Rattle.codec.specs.Bytes.{Bytes}
 use Rattle.connection.specs.Ask.{askOf}
-use Rattle.connection.specs.Calls.{changedTo, replies as repliesTo}
-use Rattle.connection.specs.Consistent.{Consistent}
-use Rattle.connection.specs.Jobs.{loads as sendsDcf, writes as sendsWrite}
-use Rattle.connection.specs.Reply.{replied, replyOf, roomAfter}
+use Rattle.exchange.specs.Calls.{changedTo, replies as repliesTo}
+use Rattle.exchange.specs.Consistent.{Consistent}
+use Rattle.exchange.specs.Jobs.{loads as sendsDcf, writes as sendsWrite}
+use Rattle.exchange.specs.Reply.{replied, replyOf, roomAfter}
 use Rattle.connection.specs.Tick.{tickOf}
-use Rattle.connection.proofs.MadeSound.{call-sound, made-sound, made-sound-read}
-use Rattle.connection.proofs.StepSound.{Steps, ask-sound, tick-sound}
-use Rattle.manager.specs.Calls.{Job, heldAt, jobRoom, loads, reads, roomIn, startJob, withRoom, writes}
-use Rattle.manager.specs.Sweep.{running}
-use Rattle.manager.specs.Table.{blank, live, roomSize, storeSize, tableOf}
-use Rattle.manager.specs.Walk.{Walking, turned, walkList}
+use Rattle.exchange.proofs.MadeSound.{call-sound, made-sound, made-sound-read}
+use Rattle.exchange.proofs.StepSound.{Steps, ask-sound, tick-sound}
+use Rattle.manager.specs.Calls.{Job, jobRoom, loads, reads, roomIn, startJob, withRoom, writes}
+use Rattle.table.specs.Sweep.{running}
+use Rattle.table.specs.Table.{blank, live, roomSize, storeSize, tableOf, heldAt}
+use Rattle.table.specs.Walk.{Walking, turned, walkList}
 use Rattle.theorems.specs.Sound.{All, Ordered, Sane, Slotted, Sound}
 use Rattle.theorems.specs.Types.{
   Changed,

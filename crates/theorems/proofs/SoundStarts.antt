@@ -6,12 +6,12 @@ use mathlib.Core.List.{List}
 use lib.Dec.{ltb, leb}
 use lib.ListN.{length, set}
 use Rattle.codec.specs.Bytes.{Bytes}
-use Rattle.connection.specs.Deadline.{deadlineOf}
+use Rattle.sdo.specs.Deadline.{deadlineOf}
 use Rattle.connection.specs.Start.{capacity, isIdle, startDcf, startRead, startWrite, started, startedAt}
-use Rattle.connection.proofs.Choices.{either}
-use Rattle.connection.proofs.MadeSound.{new-sound}
-use Rattle.manager.specs.Calls.{Job, heldAt, jobRoom, loads, numberOf, reads, roomIn, startJob, stepped, writes}
-use Rattle.manager.specs.Table.{freeRoom, insertIn, live, placeIn, roomSize, storeSize, tableOf}
+use Rattle.laws.proofs.Choices.{either}
+use Rattle.exchange.proofs.MadeSound.{new-sound}
+use Rattle.manager.specs.Calls.{Job, jobRoom, loads, numberOf, reads, roomIn, startJob, stepped, writes}
+use Rattle.table.specs.Table.{freeRoom, insertIn, live, placeIn, roomSize, storeSize, tableOf, heldAt}
 use Rattle.theorems.specs.Run.{called, starts}
 use Rattle.theorems.specs.Sound.{All, Sane, Slotted, Sound}
 use Rattle.theorems.specs.Types.{

@@ -8,12 +8,12 @@ use lib.Dec.{eqb}
 use lib.ListN.{length, take, drop, length-append, take-append-drop}
 use borrow.Author.Tests.{eqb-false}
 use Rattle.codec.specs.Bytes.{Bytes}
-use Rattle.connection.specs.Consistent.{Consistent, isEnded}
-use Rattle.connection.specs.Record.{endOf, endWith}
-use Rattle.connection.proofs.Choices.{decided}
+use Rattle.exchange.specs.Consistent.{Consistent, isEnded}
+use Rattle.sdo.specs.Record.{endOf, endWith}
+use Rattle.laws.proofs.Choices.{decided}
 use Rattle.manager.specs.Calls.{numberOf, roomIn}
-use Rattle.manager.specs.Sweep.{running, unlessEnd}
-use Rattle.manager.specs.Table.{insertIn, live, placeIn, tableOf}
+use Rattle.table.specs.Sweep.{running, unlessEnd}
+use Rattle.table.specs.Table.{insertIn, live, placeIn, tableOf}
 use Rattle.theorems.specs.Sound.{All, Ordered, Sane, Slotted, Sound}
 use Rattle.theorems.specs.Types.{EndFound, Outcome, SdoClientConnection as Connection, SdoClientManager as Manager}
 use Rattle.theorems.proofs.Alls.{Each}

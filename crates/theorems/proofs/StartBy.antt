@@ -8,32 +8,10 @@ use lib.ListN.{length, set}
 use borrow.Author.Tests.{eqb-true, leb-false}
 use Rattle.laws.specs.Pick.{pick}
 use Rattle.codec.specs.Bytes.{Bytes}
-use Rattle.connection.specs.Record.{newConnection}
-use Rattle.connection.proofs.Choices.{decided, either}
-use Rattle.manager.specs.Calls.{
-  Job,
-  heldAt,
-  jobRoom,
-  loads,
-  numberOf,
-  reads,
-  refusing,
-  roomIn,
-  startAt,
-  startDone,
-  startJob,
-  startStore,
-  startStoreAt,
-  startedHeld,
-  startedNew,
-  stepped,
-  takesNumber,
-  targetAt,
-  targetOf,
-  withRoom,
-  writes,
-}
-use Rattle.manager.specs.Table.{findIn, freeRoom, insertIn, live, storeSize, tableOf}
+use Rattle.sdo.specs.Record.{newConnection}
+use Rattle.laws.proofs.Choices.{decided, either}
+use Rattle.manager.specs.Calls.{Job, jobRoom, loads, numberOf, reads, refusing, roomIn, startAt, startDone, startJob, startStore, startStoreAt, startedHeld, startedNew, stepped, takesNumber, withRoom, writes}
+use Rattle.table.specs.Table.{findIn, freeRoom, insertIn, live, storeSize, tableOf, heldAt, targetAt, targetOf}
 use Rattle.theorems.specs.Run.{reported}
 use Rattle.theorems.specs.Types.{
   Answer,

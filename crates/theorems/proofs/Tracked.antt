@@ -8,12 +8,12 @@ use lib.ListN.{length, getD, set}
 use borrow.Author.Tests.{eq-eqb, ne-eqb}
 use Rattle.laws.specs.Pick.{pick}
 use Rattle.codec.specs.Bytes.{Bytes}
-use Rattle.connection.specs.Delivery.{ForEnd}
-use Rattle.connection.specs.Record.{endWith}
-use Rattle.connection.proofs.Carrying.{Aim, Carries, Leaves, Left, leave}
-use Rattle.connection.proofs.Choices.{either}
-use Rattle.manager.specs.Sweep.{endsIn, running, unlessEnd, withEnd}
-use Rattle.manager.specs.Table.{blank, insertAt, insertIn, placeIn}
+use Rattle.exchange.specs.Delivery.{ForEnd}
+use Rattle.sdo.specs.Record.{endWith}
+use Rattle.exchange.proofs.Carrying.{Aim, Carries, Leaves, Left, leave}
+use Rattle.laws.proofs.Choices.{either}
+use Rattle.table.specs.Sweep.{endsIn, running, unlessEnd, withEnd}
+use Rattle.table.specs.Table.{blank, insertAt, insertIn, placeIn}
 use Rattle.theorems.specs.Demand.{endFor}
 use Rattle.theorems.specs.Types.{End, EndFound, Outcome, SdoClientConnection as Connection}
 use Rattle.theorems.proofs.Alls.{All, all-at, all-insert}

@@ -11,17 +11,17 @@ use Rattle.laws.specs.Pick.{pick}
 use Rattle.codec.specs.Bytes.{Bytes}
 use Rattle.codec.specs.Writing.{bufferAfter}
 use Rattle.connection.specs.Ask.{askOf}
-use Rattle.connection.specs.Calls.{Sized, logged, sentOf}
-use Rattle.connection.specs.Commands.{commandOf}
-use Rattle.connection.specs.Delivery.{Sent}
-use Rattle.connection.specs.Payload.{payloadOf}
+use Rattle.exchange.specs.Calls.{Sized, logged, sentOf}
+use Rattle.sdo.specs.Commands.{commandOf}
+use Rattle.exchange.specs.Delivery.{Sent}
+use Rattle.sdo.specs.Payload.{payloadOf}
 use Rattle.connection.specs.Tick.{tickOf}
-use Rattle.connection.proofs.Answering.{tick-kept}
-use Rattle.connection.proofs.Asking.{ask-kept}
-use Rattle.connection.proofs.Carrying.{Aim, Asked, Left, Ticked, joinedBy}
+use Rattle.exchange.proofs.Answering.{tick-kept}
+use Rattle.exchange.proofs.Asking.{ask-kept}
+use Rattle.exchange.proofs.Carrying.{Aim, Asked, Left, Ticked, joinedBy}
 use Rattle.manager.specs.Calls.{roomIn, sentTo}
-use Rattle.manager.specs.Table.{blank}
-use Rattle.manager.specs.Walk.{Walking, passed, refused, stopOr, stopped, through, turned, walkList, walkStep}
+use Rattle.table.specs.Table.{blank}
+use Rattle.table.specs.Walk.{Walking, passed, refused, stopOr, stopped, through, turned, walkList, walkStep}
 use Rattle.theorems.specs.Demand.{commandIn, givenTo}
 use Rattle.theorems.specs.Types.{
   Now,

@@ -9,10 +9,10 @@ use lib.Dec.{ltb, leb, eqb}
 use borrow.Author.Tests.{leb-true, leb-false}
 use Rattle.laws.specs.Pick.{pick}
 use Rattle.connection.specs.Ask.{askFirst, askFree as askFreeOf, askIn, askLater, askOf, askRead, given, givenAt, quiet}
-use Rattle.connection.specs.Deadline.{deadlineOf, due, latest}
+use Rattle.sdo.specs.Deadline.{deadlineOf, due, latest}
 use Rattle.connection.specs.Tick.{retriedAt, tickAt, tickOf, timedOut}
-use Rattle.connection.proofs.Choices.{decided}
-use Rattle.manager.specs.Walk.{Walking, passed, refused, stopOr, stopped, through, turned, walkList, walkStep}
+use Rattle.laws.proofs.Choices.{decided}
+use Rattle.table.specs.Walk.{Walking, passed, refused, stopOr, stopped, through, turned, walkList, walkStep}
 use Rattle.theorems.specs.Causes.{
   Does,
   Meets,

@@ -8,24 +8,8 @@ use lib.ListN.{length}
 use borrow.Author.Tests.{eqb-true}
 use Rattle.laws.specs.Pick.{pick}
 use Rattle.codec.specs.Bytes.{Bytes}
-use Rattle.manager.specs.Calls.{
-  Job,
-  heldAt,
-  jobRoom,
-  refusing,
-  roomIn,
-  startAt,
-  startDone,
-  startStore,
-  startStoreAt,
-  startedHeld,
-  startedNew,
-  takesNumber,
-  targetAt,
-  targetOf,
-  withRoom,
-}
-use Rattle.manager.specs.Table.{findIn, live, storeSize}
+use Rattle.manager.specs.Calls.{Job, jobRoom, refusing, roomIn, startAt, startDone, startStore, startStoreAt, startedHeld, startedNew, takesNumber, withRoom}
+use Rattle.table.specs.Table.{findIn, live, storeSize, heldAt, targetAt, targetOf}
 use Rattle.theorems.specs.Run.{Call, asks, called, replies, reported, starts, ticks}
 use Rattle.theorems.specs.Types.{
   Answer,

@@ -5,10 +5,10 @@ use mathlib.Core.Path.{refl}
 use mathlib.Core.List.{List, [], _∷_}
 use lib.ListN.{length}
 use Rattle.connection.specs.Ask.{askOf}
-use Rattle.connection.specs.Record.{endOf}
+use Rattle.sdo.specs.Record.{endOf}
 use Rattle.connection.specs.Tick.{tickOf}
-use Rattle.manager.specs.Sweep.{running, unlessEnd}
-use Rattle.manager.specs.Walk.{Walking, passed, refused, stopOr, stopped, through, turned, walkList, walkStep}
+use Rattle.table.specs.Sweep.{running, unlessEnd}
+use Rattle.table.specs.Walk.{Walking, passed, refused, stopOr, stopped, through, turned, walkList, walkStep}
 use Rattle.theorems.specs.Types.{EndFound, Now, SdoClientConnection as Connection, Sends, Stepped, Turn}
 use Rattle.theorems.proofs.Alls.{All, Each, each-same}
 use Rattle.theorems.proofs.Fixing.{Same, StepFixed, ask-fixed, tick-fixed}

@@ -6,13 +6,13 @@ use Rattle.codec.specs.Bytes.{placed}
 use Rattle.codec.specs.Dcf.{dcfStep}
 use Rattle.codec.specs.Writing.{bufferAfter}
 use Rattle.connection.specs.Ask.{askOf, given}
-use Rattle.connection.specs.Deadline.{deadlineOf}
-use Rattle.connection.specs.Jobs.{loads, writes}
-use Rattle.connection.specs.Reply.{replyOf, roomFor}
+use Rattle.sdo.specs.Deadline.{deadlineOf}
+use Rattle.exchange.specs.Jobs.{loads, writes}
+use Rattle.exchange.specs.Reply.{replyOf, roomFor}
 use Rattle.connection.specs.Start.{startDcf, startRead, startWrite, started}
 use Rattle.connection.specs.Tick.{tickOf}
-use Rattle.manager.specs.Calls.{replyDone, replyStore, startDone, startStore, targetOf, turnOf, turnOutput}
-use Rattle.manager.specs.Table.{freeRoom}
+use Rattle.manager.specs.Calls.{replyDone, replyStore, startDone, startStore, turnOf, turnOutput}
+use Rattle.table.specs.Table.{freeRoom, targetOf}
 use Rattle.theorems.specs.Edges.{first, p7, p8, second}
 use Rattle.theorems.specs.Run.{called}
 use Rattle.theorems.specs.Types.{Answer, Outcome, Reason}

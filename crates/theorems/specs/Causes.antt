@@ -9,10 +9,10 @@ use lib.Dec.{ltb, eqb}
 use lib.ListN.{length}
 use Rattle.laws.specs.Pick.{pick}
 use Rattle.codec.specs.Bytes.{Bytes}
-use Rattle.connection.specs.Deadline.{due, latest}
+use Rattle.sdo.specs.Deadline.{due, latest}
 use Rattle.connection.specs.Start.{isIdle}
-use Rattle.manager.specs.Calls.{Job, heldAt, loads, reads, writes}
-use Rattle.manager.specs.Table.{findIn, live, roomSize, storeSize}
+use Rattle.manager.specs.Calls.{Job, loads, reads, writes}
+use Rattle.table.specs.Table.{findIn, live, roomSize, storeSize, heldAt}
 use Rattle.theorems.specs.Run.{Call, Host, asks, called, reached, replies, starts, ticks}
 use Rattle.theorems.specs.Types.{
   Answer,

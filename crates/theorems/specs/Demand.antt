@@ -7,8 +7,8 @@ use lib.Dec.{eqb}
 use lib.ListN.{take}
 use Rattle.laws.specs.Pick.{pick}
 use Rattle.codec.specs.Bytes.{Bytes}
-use Rattle.connection.specs.Delivery.{For, Sent, pieces}
-use Rattle.connection.specs.Jobs.{Job as Sending, counted, entriesOf, loads, writes}
+use Rattle.exchange.specs.Delivery.{For, Sent, pieces}
+use Rattle.exchange.specs.Jobs.{Job as Sending, counted, entriesOf, loads, writes}
 use Rattle.manager.specs.Calls.{Job, loads as startsDcf, writes as startsWrite}
 use Rattle.theorems.specs.Run.{After, Call, Host, asks, called, reached, replies, starts, ticks}
 use Rattle.theorems.specs.Types.{Answer, End, EndFound, Now, Outcome, SdoClientManager, SdoCommand}

@@ -4,8 +4,8 @@ use Prim.Native.Nat.{ℕ}
 use mathlib.Core.Path.{_≡_}
 use mathlib.Core.List.{List}
 use Rattle.codec.specs.Bytes.{Bytes}
-use Rattle.manager.specs.Calls.{Job, heldAt, roomIn}
-use Rattle.manager.specs.Table.{findIn, live}
+use Rattle.manager.specs.Calls.{Job, roomIn}
+use Rattle.table.specs.Table.{findIn, live, heldAt}
 use Rattle.theorems.specs.Run.{After, Call, Host, called, reached, replies, starts}
 use Rattle.theorems.specs.Types.{Found, Now, SdoClientConnection, SdoClientManager, SdoCommand, SequenceLayerHeader}
 

@@ -5,7 +5,7 @@ use mathlib.Core.List.{List, [], _∷_}
 use lib.ListN.{take}
 use Rattle.codec.specs.Bytes.{Bytes}
 use Rattle.manager.specs.Calls.{Job, replyDone, replyStore, startDone, startStore, turnOf, turnOutput}
-use Rattle.manager.specs.Table.{newManager}
+use Rattle.table.specs.Table.{newManager}
 use Rattle.theorems.specs.Types.{
   Answer,
   Done,

@@ -6,9 +6,9 @@ use mathlib.Core.Bool.{false}
 use mathlib.Core.List.{List, [], _∷_}
 use lib.ListN.{length}
 use Rattle.codec.specs.Bytes.{Bytes}
-use Rattle.connection.specs.Consistent.{Consistent, isClosed}
+use Rattle.exchange.specs.Consistent.{Consistent, isClosed}
 use Rattle.manager.specs.Calls.{roomIn}
-use Rattle.manager.specs.Table.{lastRoom, live, roomSize, tableOf}
+use Rattle.table.specs.Table.{lastRoom, live, roomSize, tableOf}
 use Rattle.theorems.specs.Run.{Call, Host, reached}
 use Rattle.theorems.specs.Types.{Outcome, SdoClientConnection, SdoClientManager}
 

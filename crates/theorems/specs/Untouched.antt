@@ -5,9 +5,9 @@ use mathlib.Core.Path.{_≡_}
 use mathlib.Core.List.{[]}
 use Rattle.laws.specs.Pick.{pick}
 use Rattle.codec.specs.Bytes.{Bytes}
-use Rattle.connection.specs.Record.{newConnection}
+use Rattle.sdo.specs.Record.{newConnection}
 use Rattle.manager.specs.Calls.{numberOf, stepped, takesNumber}
-use Rattle.manager.specs.Table.{findIn, freeRoom, insertIn, live, tableOf}
+use Rattle.table.specs.Table.{findIn, freeRoom, insertIn, live, tableOf}
 use Rattle.theorems.specs.Run.{After, Call, asks, called, replies, starts, ticks}
 use Rattle.theorems.specs.Types.{Answer, Found, Refusal, SdoClientManager}
 

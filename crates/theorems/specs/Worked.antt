@@ -7,11 +7,11 @@ use lib.ListN.{replicate}
 use Rattle.codec.specs.declared.command.DataSize.{DataSize}
 use Rattle.codec.specs.declared.sequence.ReceiveConnState.{ReceiveConnState}
 use Rattle.codec.specs.declared.sequence.SendConnState.{SendConnState}
-use Rattle.connection.specs.declared.types.Parameter.{Parameter}
+use Rattle.sdo.specs.declared.Parameter.{Parameter}
 use Rattle.codec.specs.Bytes.{Bytes}
-use Rattle.connection.specs.Delivery.{pieces}
-use Rattle.connection.specs.Jobs.{Job as Sending}
-use Rattle.manager.specs.Table.{newManager}
+use Rattle.exchange.specs.Delivery.{pieces}
+use Rattle.exchange.specs.Jobs.{Job as Sending}
+use Rattle.table.specs.Table.{newManager}
 use Rattle.theorems.specs.Demand.{Log, follow, jobOf}
 use Rattle.theorems.specs.Run.{After, Call, asks, called, replies, starts}
 use Rattle.theorems.specs.Types.{

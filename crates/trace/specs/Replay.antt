@@ -19,7 +19,7 @@ use Rattle.manager.specs.Calls.{
   turnOutput,
   writes,
 }
-use Rattle.manager.specs.Sweep.{noEnds}
+use Rattle.table.specs.Sweep.{noEnds}
 use Rattle.trace.specs.Record.{ownData, recordRead}
 use Rattle.trace.specs.Types.{
   Answer,

@@ -39,12 +39,18 @@ use codec::sequence::ReceiveConnState;
 use codec::sequence::SendConnState;
 use codec::sequence::SequenceLayerHeader;
 use codec::sequence::SequenceRead;
-use connection::types::Now;
-use connection::types::Parameter;
+use manager::ask::get_pending_request;
+use manager::ask::tick;
+use manager::reply::handle_response;
+use manager::start::read_object_by_index;
+use manager::start::start_configuration_download;
+use manager::start::write_object_by_index;
 use manager::types::Answer;
 use manager::types::Done;
-use manager::types::SdoClientManager;
-use manager::types::no_ends;
+use sdo::Now;
+use sdo::Parameter;
+use table::types::SdoClientManager;
+use table::types::no_ends;
 
 // What a record came to: the library's answer, and how many bytes are gathered after it.
 pub struct Applied {
@@ -125,13 +131,13 @@ fn use_bytes(
 {
     match u {
         Use::Write => {
-            return m.write_object_by_index(r.node, r.index, r.sub_index, bytes, when, store);
+            return write_object_by_index(m, r.node, r.index, r.sub_index, bytes, when, store);
         }
-        Use::Dcf => return m.start_configuration_download(r.node, bytes, when, store),
+        Use::Dcf => return start_configuration_download(m, r.node, bytes, when, store),
         Use::Reply => {
             let seq = reply_header(r.index);
             let cmd = reply_command(r.flags);
-            return m.handle_response(r.node, seq, cmd, bytes, store);
+            return handle_response(m, r.node, seq, cmd, bytes, store);
         }
     }
 }
@@ -174,21 +180,21 @@ fn perform(
             return Applied { done, gathered: 0 };
         }
         Operation::Read => {
-            let done = m.read_object_by_index(r.node, r.index, r.sub_index, when, store);
+            let done = read_object_by_index(m, r.node, r.index, r.sub_index, when, store);
             return Applied {
                 done,
                 gathered: held,
             };
         }
         Operation::Tick => {
-            let done = m.tick(when, store, output);
+            let done = tick(m, when, store, output);
             return Applied {
                 done,
                 gathered: held,
             };
         }
         Operation::Ask => {
-            let done = m.get_pending_request(when, store, output);
+            let done = get_pending_request(m, when, store, output);
             return Applied {
                 done,
                 gathered: held,

@@ -30,11 +30,11 @@ use codec::refusal::Refusal;
 use codec::refusal::refusal_number;
 use codec::sequence::SequenceLayerHeader;
 use codec::sequence::Written;
-use connection::types::End;
-use connection::types::Reason;
 use manager::types::Answer;
-use manager::types::Ends;
 use manager::types::SentTo;
+use sdo::End;
+use sdo::Reason;
+use table::types::Ends;
 
 fn letter(r: Reason) -> u8
     ensures { λ b. ⌜ b ≡ letterOf r ⌝ }

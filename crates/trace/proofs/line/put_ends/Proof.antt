@@ -4,7 +4,7 @@ use native.Mathlib.Omega.{arith}
 use Prim.Native.Nat.{_-_}
 use mathlib.Core.Path.{_≡_, _∙_}
 use lib.ListN.{length}
-use Rattle.manager.proofs.Tables.{length-mapped}
+use Rattle.table.proofs.Tables.{length-mapped}
 use Rattle.trace.proofs.Ending.{Ending, ending-all, ending-more, ending-none, no-ending}
 use Rattle.trace.proofs.Putting.{put-length}
 use borrow.Author.Needs.{needs}

@@ -1,0 +1,10 @@
+pub mod Answering
+pub mod Asking
+pub mod Carrying
+pub mod Delivered
+pub mod MadeSound
+pub mod PartsAsked
+pub mod ReplySound
+pub mod Starting
+pub mod StepSound
+pub mod Storing

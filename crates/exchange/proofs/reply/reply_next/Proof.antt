@@ -1,0 +1,38 @@
+-- `exchange::reply::reply_next` meets its contract: each arm is one case of its definition. Assumes nothing.
+use mathlib.Core.Path.{refl}
+use mathlib.Core.Path.{_∙_}
+use Rattle.exchange.specs.Reply.{replyNext}
+use Rattle.laws.proofs.Answers.{told}
+use borrow.Author.Needs.{needs}
+use Rattle.exchange.proofs.reply.reply_next.Statement.{statement}
+use Rattle.exchange.proofs.reply.reply_next.Tie as tie
+
+returns : tie.Need-returns
+returns c =
+    let a = c .before .before .before .before .before .before .before .before .args in
+    told (λ x. replyNext x (a .c)) refl (c .before .before .before .d .given .1) (rw (c .before .next-transaction .ensures, c .before .before .before .before .before .before .delivered-one .ensures))
+
+returns-2 : tie.Need-returns-2
+returns-2 c =
+    let a = c .before .before .before .before .before .before .args in
+    told (λ x. replyNext x (a .c)) refl (c .before .enum-told .given .1) (c .ended .ensures ∙ rw (c .before .before .before .before .delivered-one .ensures))
+
+returns-3 : tie.Need-returns-3
+returns-3 c =
+    let a = c .before .before .before .before .before .before .args in
+    told (λ x. replyNext x (a .c)) refl (c .before .enum-told2 .given .1) (c .ended2 .ensures ∙ rw (c .before .before .before .before .delivered-one .ensures))
+
+pub reply-next-spec : {M : Type 1} → statement M
+reply-next-spec =
+    tie.close
+    (tie.spec
+    (λ c κs. search needs)
+    (λ c. search needs)
+    (λ c κs. search needs)
+    returns
+    (λ c. search needs)
+    (λ c κs. search needs)
+    returns-2
+    (λ c. search needs)
+    (λ c κs. search needs)
+    returns-3)

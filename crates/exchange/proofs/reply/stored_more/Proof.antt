@@ -1,0 +1,27 @@
+-- `exchange::reply::stored_more` meets its contract: each arm is one case of its definition. Assumes nothing.
+use mathlib.Core.Path.{refl}
+use Rattle.exchange.specs.Reply.{storedMore}
+use Rattle.laws.proofs.Answers.{told}
+use borrow.Author.Needs.{needs}
+use Rattle.exchange.proofs.reply.stored_more.Statement.{statement}
+use Rattle.exchange.proofs.reply.stored_more.Tie as tie
+
+returns : tie.Need-returns
+returns c =
+    let a = c .before .before .before .before .args in
+    told (λ x. storedMore x (a .c) (a .from)) refl (c .before .before .f .given .1) (rw (c .with-bytes .ensures))
+
+returns-2 : tie.Need-returns-2
+returns-2 c =
+    let a = c .before .before .args in
+    told (λ x. storedMore x (a .c) (a .from)) refl (c .enum-told .given .1) refl
+
+pub stored-more-spec : {M : Type 1} → statement M
+stored-more-spec =
+    tie.close
+    (tie.spec
+    (λ c. search needs)
+    (λ c κs. search needs)
+    returns
+    (λ c. search needs)
+    returns-2)

@@ -1,0 +1,69 @@
+// Entering a connection into the table: in its place by node, or over the one that stands there.
+ghost use mathlib.Core.Path.{_≡_};
+ghost use Prim.Native.Nat.{_<_, _≤_};
+ghost use lib.ListN.{length, take, set};
+ghost use Rattle.table.specs.Table.{live, padded, tableOf, insertIn};
+use sdo::SdoClientConnection;
+use table::held::lived;
+use table::held::place_of;
+use table::types::SdoClientManager;
+use table::types::blank;
+
+// The first n connections held, in a table that is blank after them.
+fn first_of(m: SdoClientManager, n: usize) -> [SdoClientConnection; 8]
+    requires { ⌜ n ≤ length (live m) ⌝ }
+    ensures { λ r. ⌜ r ≡ padded (take n (live m)) ⌝ }
+{
+    let old = m.connections;
+    let b = blank();
+    let mut out = [b; 8];
+    let mut i: usize = 0;
+    while i < n {
+        out[i] = old[i];
+        i += 1;
+    }
+    out
+}
+
+// The manager with a connection more, in its place by node, and a transaction number.
+pub(crate) fn insert(m: SdoClientManager, c: SdoClientConnection, number: u8) -> SdoClientManager
+    requires { ⌜ length (live m) < 8 ⌝ }
+    ensures { λ r. ⌜ r ≡ tableOf (insertIn c (live m)) number ⌝ }
+{
+    let old = m.connections;
+    let n = lived(m);
+    let place = place_of(m, c.target_node_id);
+    let mut out = first_of(m, place);
+    out[place] = c;
+    let mut i = place;
+    while i < n {
+        out[i + 1] = old[i];
+        i += 1;
+    }
+    SdoClientManager {
+        connections: out,
+        count: n + 1,
+        next_transaction_id: number,
+    }
+}
+
+// The manager with another connection at a place of those held, and a transaction number.
+pub(crate) fn replace(
+    m: SdoClientManager,
+    place: usize,
+    c: SdoClientConnection,
+    number: u8,
+) -> SdoClientManager
+    ensures { λ r. ⌜ r ≡ tableOf (set (live m) place c) number ⌝ }
+{
+    let n = lived(m);
+    let mut out = first_of(m, n);
+    if place < n {
+        out[place] = c;
+    }
+    SdoClientManager {
+        connections: out,
+        count: n,
+        next_transaction_id: number,
+    }
+}

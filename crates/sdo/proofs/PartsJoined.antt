@@ -1,0 +1,62 @@
+-- The parts of a transfer: their lengths sum to the total, for every total and every limit; bytes cut at these lengths and joined are the
+-- bytes, each once; and P1 to P6. Assumes nothing.
+use Prim.Native.Nat.{ℕ, zero, suc, _+_, _-_, _*_, _≤_}
+use native.Mathlib.Omega.{arith}
+use mathlib.Core.Path.{_≡_, refl, sym, _∙_}
+use mathlib.Core.List.{List, [], _∷_, map}
+use lib.ListN.{length, drop, length-drop, take-append-drop}
+use Rattle.laws.specs.Pick.{pick}
+use Rattle.codec.specs.Bytes.{Bytes}
+use Rattle.sdo.specs.Parts.{limit, wire, total, partLength, firstKind, firstSize}
+use Rattle.sdo.specs.PartsOf.{
+  Edge,
+  Part,
+  cutAt,
+  edgeTotals,
+  joinedUp,
+  kindUpto,
+  laterCount,
+  laterParts,
+  lengths,
+  partsOf,
+  sizeUpto,
+}
+use Rattle.sdo.specs.Types.{Transfer}
+use Rattle.sdo.proofs.Wires.{wire-length}
+
+-- with document 01's limit, kind and data size are those that ask gives
+pub at-the-limit : (n : ℕ) → (kindUpto limit n ≡ firstKind n) × (sizeUpto limit n ≡ firstSize n)
+at-the-limit n = (refl, refl)
+
+-- ---- the lengths
+later-lengths : (k rest : ℕ) → rest ≤ k * 1452 → lengths (laterParts k rest) ≡ rest
+later-lengths zero rest h = omega arith
+later-lengths (suc k) rest h = rw (later-lengths k (rest - partLength rest) (omega arith)) (omega arith)
+
+pub lengths-total : (limit total : ℕ) → lengths (partsOf limit total) ≡ total
+lengths-total limit total =
+    rw (later-lengths (laterCount (total - partLength total)) (total - partLength total) (omega arith)) (omega arith)
+
+-- ---- cut and joined
+none-left : (b : Bytes) → 0 ≡ length b → [] ≡ b
+none-left [] e = refl
+none-left (x ∷ b) e = absurd (omega (arith, e))
+
+cut-joined : (ps : List Part) (b : Bytes) → lengths ps ≡ length b → joinedUp (cutAt ps b) ≡ b
+cut-joined [] b e = none-left b e
+cut-joined (p ∷ ps) b e =
+    rw (cut-joined ps (drop (p .length) b) (rw length-drop (omega (arith, e)))) (take-append-drop (p .length) b)
+
+pub joined : (limit : ℕ) (b : Bytes) → joinedUp (cutAt (partsOf limit (length b)) b) ≡ b
+joined limit b = cut-joined (partsOf limit (length b)) b (lengths-total limit (length b))
+
+-- so it is with a transfer's bytes and its total
+pub transfer-joined : (limit : ℕ) (job : Bytes) (t : Transfer) → t .start + t .len ≤ length job
+    → joinedUp (cutAt (partsOf limit (total t)) (wire job t)) ≡ wire job t
+transfer-joined limit job t h =
+    cut-joined (partsOf limit (total t)) (wire job t) (lengths-total limit (total t) ∙ sym (wire-length job t h))
+
+-- ---- P1 to P6
+pub edges : map (λ (e : Edge). partsOf limit (e .total)) edgeTotals ≡ map (λ (e : Edge). e .parts) edgeTotals
+unfolding pick
+edges = refl

@@ -1,0 +1,24 @@
+-- The code's own types, under one name for the definitions.
+pub use Rattle.codec.specs.declared.command.CommandId.{CommandId}
+pub use Rattle.codec.specs.declared.command.DataSize.{DataSize}
+pub use Rattle.codec.specs.declared.command.SdoCommand.{SdoCommand}
+pub use Rattle.codec.specs.declared.command.Segmentation.{Segmentation}
+pub use Rattle.codec.specs.declared.sequence.ReceiveConnState.{ReceiveConnState}
+pub use Rattle.codec.specs.declared.sequence.SendConnState.{SendConnState}
+pub use Rattle.codec.specs.declared.sequence.SequenceLayerHeader.{SequenceLayerHeader}
+pub use Rattle.sdo.specs.declared.Deadline.{Deadline}
+pub use Rattle.sdo.specs.declared.EndFound.{EndFound}
+pub use Rattle.sdo.specs.declared.LoadedTransfer.{LoadedTransfer}
+pub use Rattle.sdo.specs.declared.Message.{Message}
+pub use Rattle.sdo.specs.declared.Moment.{Moment}
+pub use Rattle.sdo.specs.declared.Outcome.{Outcome}
+pub use Rattle.sdo.specs.declared.Outgoing.{Outgoing}
+pub use Rattle.sdo.specs.declared.Outstanding.{Outstanding}
+pub use Rattle.sdo.specs.declared.Parameter.{Parameter}
+pub use Rattle.sdo.specs.declared.PendingRead.{PendingRead}
+pub use Rattle.sdo.specs.declared.Reason.{Reason}
+pub use Rattle.sdo.specs.declared.SdoClientConnection.{SdoClientConnection}
+pub use Rattle.sdo.specs.declared.SdoClientConnectionState.{SdoClientConnectionState}
+pub use Rattle.sdo.specs.declared.SdoJob.{SdoJob}
+pub use Rattle.sdo.specs.declared.Transfer.{Transfer}
+pub use Rattle.sdo.specs.declared.Waiting.{Waiting}

@@ -1,0 +1,30 @@
+-- `table::held::uses_room` meets its contract. The loop's invariant: none of the first `i` connections has the room. The measure is what
+-- is left of the connections held. Assumes nothing.
+use Prim.Native.Nat.{_-_}
+use mathlib.Core.Path.{refl}
+use Rattle.table.proofs.Scanning.{Rooming, rooming-more, scan-none, unused, used}
+use borrow.Author.Needs.{needs}
+use Rattle.table.proofs.held.uses_room.Statement.{statement}
+use Rattle.table.proofs.held.uses_room.Tie as tie
+
+abbrev Inv-loop : tie.InvT-loop
+Inv-loop room old n i₀ i = Rooming room old n i
+
+abbrev μ-loop : tie.MeasureT-loop
+μ-loop room old n i₀ i = n - i
+
+pub uses-room-spec : {M : Type 1} → statement M
+uses-room-spec =
+    tie.close
+    (tie.spec
+    Inv-loop
+    μ-loop
+    (λ c κs. search needs)
+    (λ c. search (needs, scan-none))
+    (λ c. search needs)
+    (λ c. search needs)
+    (λ c. search (needs, used))
+    (λ c. search needs)
+    (λ c. search needs)
+    (λ c. rooming-more _ _ _ _ _ _ (search needs) refl (search needs) (c .if1 .left))
+    (λ c. search (needs, unused)))

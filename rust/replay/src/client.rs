@@ -7,13 +7,13 @@
 
 use crate::dcf::{self, SENT_HEAD};
 use crate::debug_text;
-use crate::end::End;
 use crate::ledger::{Ledger, Work};
 use crate::refusal::Refusal;
 use crate::table::Table;
 use oracle::{
     NodeId, ObjectDictionary, PowerlinkError, SdoClientManager, SdoCommand, SequenceLayerHeader,
 };
+use replay_line::End;
 use std::fmt::Write;
 
 /// The limits of document 01, which the repository does not have.

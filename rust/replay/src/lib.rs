@@ -12,7 +12,6 @@ mod counts;
 pub mod cover;
 mod dcf;
 mod debug_text;
-mod end;
 pub mod fixed;
 mod gather;
 pub mod generate;

@@ -1,9 +1,9 @@
 //! The lines that are printed: document 01's line of a record, and the state line of the test program.
 
 use crate::client::{Outcome, Sent};
-use crate::end::End;
 use crate::sum::Sum;
 use crate::table::{Held, Table};
+use replay_line::End;
 
 /// Sequence header, command header with data size, and the longest part.
 const MOST_SENT: usize = 4 + 12 + 1_452;
@@ -154,9 +154,9 @@ fn put_joined<T>(out: &mut Vec<u8>, list: &[T], put: impl Fn(&mut Vec<u8>, &T)) 
 mod tests {
     use super::{put_hex, put_line, put_number, put_state};
     use crate::client::Answer;
-    use crate::end::{End, Reason};
     use crate::refusal::Refusal;
     use crate::table::Table;
+    use replay_line::{End, Reason};
 
     fn text(put: impl FnOnce(&mut Vec<u8>)) -> String {
         let mut out = Vec::new();

@@ -6,10 +6,10 @@
 
 use crate::client::{with_code, Answer, Call, Job};
 use crate::debug_text;
-use crate::end::Reason;
 use crate::sum::Sum;
 use crate::table::{Held, Table};
 use oracle::{Connection, NodeId, ObjectDictionary};
+use replay_line::Reason;
 use std::collections::BTreeMap;
 
 pub struct Mirrors {

@@ -2,10 +2,10 @@
 
 use crate::client::{Job, MOST_BYTES};
 use crate::dcf::{self, Readable, SENT_HEAD};
-use crate::end::{End, Reason};
 use crate::refusal::Refusal;
 use crate::table::{Held, State};
 use oracle::{ReceiveConnState, SdoCommand, Segmentation, SendConnState, SequenceLayerHeader};
+use replay_line::{End, Reason};
 
 /// What a job has to send or to bring.
 #[derive(Debug, Clone)]

@@ -8,11 +8,11 @@
 mod entry;
 
 use crate::client::Sent;
-use crate::end::{End, Reason};
 use crate::refusal::Refusal;
 use crate::table::{State, Table};
 use entry::{Common, Entry};
 use oracle::{SdoCommand, SequenceLayerHeader};
+use replay_line::{End, Reason};
 
 pub use entry::Work;
 

@@ -7,7 +7,6 @@ mod walk;
 
 use crate::client::{Answer, Call, MOST_BYTES, MOST_HELD};
 use crate::counts::Counts;
-use crate::end::{End, Reason};
 use crate::gather::Turn;
 use crate::record::{Operation, Record, RecordBytes, MOST_DATA};
 use crate::refusal::Refusal;
@@ -15,6 +14,7 @@ use crate::rules::Rule;
 use crate::table::{State, Table};
 use crate::watched::Step;
 use oracle::ObjectDictionary;
+use replay_line::{End, Reason};
 
 /// The low four flag bits, which have no meaning.
 const LOW_FLAGS: u8 = 0x0F;

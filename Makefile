@@ -15,10 +15,11 @@ replay:
 lib:
 	@rt staticlib ostelumiv 1>&2
 
-# Frames as hex on standard input, one a line, shown in words.
+# Frames as hex on standard input, one a line, shown in words; with DO=replay, the lines that the replay printed (docs/TRACES.md).
+display: DO =
 display: lib
-	cd rust && cargo build --release --offline --quiet -p display
-	@rust/target/release/display
+	@cd rust && cargo build --release --offline --quiet -p display
+	@rust/target/release/display $(DO)
 
 # Readable lines on standard input to the replay's records on standard output; with DO=read, records to lines (docs/TRACES.md).
 trace: DO = write

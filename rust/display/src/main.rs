@@ -1,15 +1,36 @@
 //! The program `display`: its arguments, its standard streams and its exit status.
 
+use display::{Notation, When};
 use std::env;
-use std::io::{self, BufWriter, ErrorKind, Write};
+use std::ffi::OsString;
+use std::io::{self, ErrorKind, IsTerminal, Write};
 use std::process::ExitCode;
 
 const USAGE: &str = "\
-usage: display < FRAMES
+usage: display [--color=WHEN] < FRAMES
+       display replay [--color=WHEN] < LINES
 
-Shows SDO frames in words, a line each. Standard input has one frame a line, in hex: the sequence
-header, then the command. Spaces may stand between bytes. Blank lines and lines that start with #
-are passed over. A line that cannot be shown is told by its number and the refusal.
+Shows a run in words, a row for each command: to or from which node, the command and its kind, object
+(index and sub-index in hex), size, transaction, the sequence header's numbers and states, and what
+is carried.
+
+FRAMES has one frame a line, in hex: the sequence header, then the command. Spaces may stand between
+bytes. Node and direction may stand ahead of it:
+
+  5 > HEX        the client sends it to node 5
+  5 < HEX        node 5 answers it
+
+LINES are those that the replay prints. A row begins with the record's number and its operation. What
+was sent, a refusal and each end have a row of their own; a gather that was taken has none.
+
+States are none (NoConnection), init (Initialization), valid (ConnectionValid), on send also request
+(ConnectionValidAckRequest), and on receive error (ErrorResponse).
+
+Blank lines and lines that start with # are passed over. A line that cannot be shown is told in its
+place: its number, and the refusal's number and name, or what was expected.
+
+WHEN is always, never, or auto, which it is without the option: colours on a terminal, and none where
+NO_COLOR is set.
 
 exit status: 0 all shown, 1 a line was not shown, 2 wrong arguments or a failing stream
 ";
@@ -17,12 +38,16 @@ exit status: 0 all shown, 1 a line was not shown, 2 wrong arguments or a failing
 const NOT_SHOWN: u8 = 1;
 const FAILED: u8 = 2;
 
+enum Request {
+    Help,
+    Show(Notation, When),
+}
+
 fn main() -> ExitCode {
-    let arguments: Vec<_> = env::args_os().skip(1).collect();
-    let answer = match arguments.as_slice() {
-        [] => show(),
-        [only] if only == "--help" => print_usage(),
-        _ => {
+    let answer = match request(env::args_os().skip(1)) {
+        Some(Request::Help) => print_usage(),
+        Some(Request::Show(notation, when)) => show(notation, when),
+        None => {
             eprint!("{USAGE}");
             return ExitCode::from(FAILED);
         }
@@ -39,11 +64,26 @@ fn main() -> ExitCode {
     }
 }
 
-fn show() -> io::Result<bool> {
-    let mut output = BufWriter::new(io::stdout().lock());
-    let all_shown = display::run(&mut io::stdin().lock(), &mut output)?;
-    output.flush()?;
-    Ok(all_shown)
+/// What the arguments ask for; none where one of them is wrong.
+fn request(arguments: impl Iterator<Item = OsString>) -> Option<Request> {
+    let mut notation = Notation::Frames;
+    let mut when = When::Auto;
+    for argument in arguments {
+        match argument.to_str()? {
+            "--help" => return Some(Request::Help),
+            "replay" => notation = Notation::Replay,
+            option => when = When::of_word(option.strip_prefix("--color=")?)?,
+        }
+    }
+    Some(Request::Show(notation, when))
+}
+
+fn show(notation: Notation, when: When) -> io::Result<bool> {
+    // Standard output passes on each row as it ends, so that a run can be watched.
+    let mut output = io::stdout().lock();
+    let none_wanted = env::var_os("NO_COLOR").is_some_and(|value| !value.is_empty());
+    let coloured = when.coloured(output.is_terminal(), none_wanted);
+    display::run(notation, coloured, &mut io::stdin().lock(), &mut output)
 }
 
 fn print_usage() -> io::Result<bool> {

@@ -1,127 +1,95 @@
-//! A frame in words: the sequence header, the command, and what the command's payload asks for or
-//! carries.
+//! A frame in words: whose it is, the command, its object and size, the sequence header, and what it
+//! carries. Each cell is as wide as the values that the client sends or is sent, so that rows align.
 
-use ostelumiv::{
-    CommandId, CommandLayerHeader, ReadByIndexRequest, ReadMultipleParamRequest, Refusal,
-    SdoCommand, Segmentation, SequenceLayerHeader, WriteAllByIndexRequest, WriteByIndexRequest,
-};
+mod content;
+#[cfg(test)]
+mod tests;
+
+use crate::row::{head, head_alone, Row, Tone};
+use content::Content;
+use ostelumiv::{CommandId, Refusal, SdoCommand, SendConnState, SequenceLayerHeader};
+use trace::{RECEIVE_STATES, SEND_STATES};
 
 /// Where the command starts in a frame.
 const COMMAND_START: usize = 4;
-/// How many bytes of data are shown; a line is for reading.
-const MOST_DATA_SHOWN: usize = 32;
 
-/// One line for a frame, or the refusal of the part of it that cannot be read.
-pub fn frame(frame: &[u8]) -> Result<String, Refusal> {
+/// Which way a frame went: from the client to a node, from a node, or nobody said.
+#[derive(Debug, Clone, Copy, PartialEq, Eq)]
+pub enum Way {
+    Unknown,
+    To(u8),
+    From(u8),
+}
+
+/// The row of a frame, or the refusal of the part of it that cannot be read.
+pub fn frame(way: Way, frame: &[u8]) -> Result<Row, Refusal> {
     let sequence = SequenceLayerHeader::deserialize(frame)?;
     let command = SdoCommand::deserialize(&frame[COMMAND_START..])?;
-    let content = content(&command)?;
-    Ok(format!(
-        "{} | {}{}{}",
+    let content = Content::of(way, &command)?;
+    let text = format!(
+        "{}  {:<12}  {:<9}  {:<7}  {:<10}  transaction {:>3}  {}  {}",
+        way_words(way),
+        command.header.command_id.name(),
+        kind(&sequence, &command),
+        content.object,
+        size(command.header.segment_size),
+        command.header.transaction_id,
         sequence_words(&sequence),
-        command_words(&command),
-        if content.is_empty() { "" } else { ": " },
-        content
-    ))
+        carried(&command, content.words),
+    );
+    Ok(Row::new(tone(way, &command), text))
 }
 
-/// The states are padded to their longest name, so that the commands stand below each other.
+fn way_words(way: Way) -> String {
+    match way {
+        Way::Unknown => head_alone("frame"),
+        Way::To(node) => head("to", node),
+        Way::From(node) => head("from", node),
+    }
+}
+
+fn tone(way: Way, command: &SdoCommand) -> Tone {
+    match way {
+        _ if command.header.is_aborted => Tone::Trouble,
+        Way::From(_) => Tone::Answer,
+        Way::To(_) | Way::Unknown => Tone::Plain,
+    }
+}
+
+/// The segmentation, but for an abort and an opening, of which nobody looks at it.
+fn kind(sequence: &SequenceLayerHeader, command: &SdoCommand) -> &'static str {
+    let nil = command.header.command_id == CommandId::Nil;
+    if command.header.is_aborted {
+        "Abort"
+    } else if nil && sequence.send_con == SendConnState::Initialization {
+        "Opening"
+    } else {
+        command.header.segmentation.name()
+    }
+}
+
+fn size(bytes: u16) -> String {
+    format!("{bytes:>4} byte{}", if bytes == 1 { "" } else { "s" })
+}
+
+/// The states have the words that they have in a trace.
 fn sequence_words(header: &SequenceLayerHeader) -> String {
     format!(
-        "send {:>2} {:<26} receive {:>2} {:<15}",
+        "send {:>2} {:<7}  receive {:>2} {:<5}",
         header.send_sequence_number,
-        format!("{},", header.send_con.name()),
+        SEND_STATES[usize::from(header.send_con.number())],
         header.receive_sequence_number,
-        header.receive_con.name()
+        RECEIVE_STATES[usize::from(header.receive_con.number())],
     )
 }
 
-fn command_words(command: &SdoCommand) -> String {
-    let header = &command.header;
-    let data_size = command
-        .data_size
-        .map_or(String::new(), |size| format!(", data size {size}"));
-    format!(
-        "{}{} {} transaction {}, {} byte{}{data_size}",
-        header.command_id.name(),
-        if header.is_response { " response" } else { "" },
-        header.segmentation.name(),
-        header.transaction_id,
-        header.segment_size,
-        if header.segment_size == 1 { "" } else { "s" },
-    )
+/// What only some commands have.
+fn carried(command: &SdoCommand, content: Option<String>) -> String {
+    let response = command.header.is_response.then(|| "response".into());
+    let data_size = command.data_size.map(|size| format!("data size {size}"));
+    let words: Vec<String> = [response, data_size, content]
+        .into_iter()
+        .flatten()
+        .collect();
+    words.join(", ")
 }
-
-/// What the payload says: an abort's code, a request's objects, else data.
-fn content(command: &SdoCommand) -> Result<String, Refusal> {
-    let payload = command.payload;
-    if command.header.is_aborted {
-        return Ok(abort(payload));
-    }
-    if !starts_request(&command.header) {
-        return Ok(data(payload));
-    }
-    match command.header.command_id {
-        CommandId::ReadByIndex => {
-            let request = ReadByIndexRequest::from_payload(payload)?;
-            Ok(object(request.index, request.sub_index))
-        }
-        CommandId::WriteByIndex => {
-            let request = WriteByIndexRequest::from_payload(payload)?;
-            let object = object(request.index, request.sub_index);
-            Ok(format!("{object} {}", data_or_none(request.data)))
-        }
-        CommandId::WriteAllByIndex => {
-            let request = WriteAllByIndexRequest::from_payload(payload)?;
-            let data = data_or_none(request.data);
-            Ok(format!("{:04X} {data}", request.index))
-        }
-        CommandId::ReadMultipleParamByIndex => {
-            let request = ReadMultipleParamRequest::from_payload(payload)?;
-            let objects = request.entries().map(|at| object(at.index, at.sub_index));
-            Ok(objects.collect::<Vec<_>>().join(" "))
-        }
-        _ => Ok(data(payload)),
-    }
-}
-
-/// Only a request's first command says what it is for; its later parts and a response carry data.
-fn starts_request(header: &CommandLayerHeader) -> bool {
-    let starts = matches!(
-        header.segmentation,
-        Segmentation::Expedited | Segmentation::Initiate
-    );
-    starts && !header.is_response
-}
-
-fn object(index: u16, sub_index: u8) -> String {
-    format!("{index:04X}:{sub_index:02X}")
-}
-
-fn abort(payload: &[u8]) -> String {
-    match payload.first_chunk() {
-        Some(code) => format!("abort {:08X}", u32::from_le_bytes(*code)),
-        None => "abort without a code".into(),
-    }
-}
-
-fn data_or_none(bytes: &[u8]) -> String {
-    if bytes.is_empty() {
-        "no data".into()
-    } else {
-        data(bytes)
-    }
-}
-
-/// The data in hex, cut where they are long; nothing where there are none.
-fn data(bytes: &[u8]) -> String {
-    let (head, tail) = bytes.split_at(bytes.len().min(MOST_DATA_SHOWN));
-    match (head.len(), tail.len()) {
-        (0, _) => String::new(),
-        (_, 0) => format!("data {}", hex::text(head)),
-        (_, more) => format!("data {} and {more} more", hex::text(head)),
-    }
-}
-
-#[cfg(test)]
-mod tests;

@@ -12,6 +12,7 @@ mod record;
 mod words;
 mod write;
 
+pub use notation::{RECEIVE_STATES, SEND_STATES};
 pub use read::read;
 pub use record::RECORD;
 pub use words::Fault;

@@ -1,0 +1,27 @@
+//! Why a line could not be shown.
+
+use ostelumiv::Refusal;
+use std::fmt;
+
+#[derive(Debug, PartialEq, Eq)]
+pub enum Bad {
+    /// The text is none: what was expected of it.
+    Expected(&'static str),
+    /// The codec's answer to the frame.
+    Refused(Refusal),
+}
+
+impl From<Refusal> for Bad {
+    fn from(refusal: Refusal) -> Self {
+        Self::Refused(refusal)
+    }
+}
+
+impl fmt::Display for Bad {
+    fn fmt(&self, f: &mut fmt::Formatter<'_>) -> fmt::Result {
+        match self {
+            Self::Expected(expected) => write!(f, "expected {expected}"),
+            Self::Refused(refusal) => write!(f, "refused {refusal}"),
+        }
+    }
+}

@@ -1,0 +1,39 @@
+//! A row of the picture: its text, and what it is at a glance.
+
+#[derive(Debug, PartialEq, Eq)]
+pub struct Row {
+    pub tone: Tone,
+    pub text: String,
+}
+
+#[derive(Debug, Clone, Copy, PartialEq, Eq)]
+pub enum Tone {
+    /// What the client sends, or a frame with no direction.
+    Plain,
+    /// What a node answers.
+    Answer,
+    /// A record of which nothing came.
+    Quiet,
+    /// A job that ended Complete.
+    Good,
+    /// An abort, a refusal, a job that ended otherwise, a line that cannot be shown.
+    Trouble,
+}
+
+impl Row {
+    /// Cells are padded for those to their right, so a row's last ones leave blanks that nobody needs.
+    pub fn new(tone: Tone, text: String) -> Self {
+        let text = text.trim_end().into();
+        Self { tone, text }
+    }
+}
+
+/// The first cell: what the row tells of, and the node.
+pub fn head(word: &str, node: u8) -> String {
+    format!("{word:<4} {node:>3}")
+}
+
+/// The first cell, as wide, where no node is known.
+pub fn head_alone(word: &str) -> String {
+    format!("{word:<8}")
+}

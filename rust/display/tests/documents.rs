@@ -1,0 +1,94 @@
+//! The runs in traces/ as pictures, and the documents' quotes of what is shown.
+
+use display::{run, Notation};
+use std::fs;
+use std::path::{Path, PathBuf};
+
+fn root() -> PathBuf {
+    Path::new(env!("CARGO_MANIFEST_DIR")).join("../..")
+}
+
+fn text(path: &Path) -> String {
+    fs::read_to_string(path).unwrap_or_else(|error| panic!("{}: {error}", path.display()))
+}
+
+fn shown(notation: Notation, input: &str) -> String {
+    let mut output = Vec::new();
+    assert!(run(notation, false, &mut input.as_bytes(), &mut output).unwrap());
+    String::from_utf8(output).unwrap()
+}
+
+fn picture(name: &str) -> String {
+    let lines = root().join("traces").join(name).with_extension("lines");
+    shown(Notation::Replay, &text(&lines))
+}
+
+/// The rows quoted in a document, indented there by four blanks.
+fn quotes(document: &str, rows: &str) {
+    let document = text(&root().join(document));
+    let quoted: String = rows.lines().map(|row| format!("    {row}\n")).collect();
+    assert!(document.contains(&quoted), "not quoted:\n{quoted}");
+}
+
+#[test]
+fn the_guide_has_the_picture_of_document_01s_run() {
+    quotes("docs/TRACES.md", &picture("document01"));
+    let lines = text(&root().join("crates/replay/stdout"));
+    assert_eq!(shown(Notation::Replay, &lines), picture("document01"));
+}
+
+/// The hex that the README echoes, and the row below it.
+#[test]
+fn the_readmes_example() {
+    let readme = text(&root().join("README.md"));
+    let (_, example) = readme.split_once("echo '").unwrap();
+    let (frame, _) = example.split_once("' | make -s display\n").unwrap();
+    quotes("README.md", &shown(Notation::Frames, frame));
+}
+
+/// Every line of the replay in traces/ can be shown, and each record but for gathers has its row.
+#[test]
+fn every_run() {
+    let mut runs = 0;
+    for file in fs::read_dir(root().join("traces")).unwrap() {
+        let path = file.unwrap().path();
+        if path
+            .extension()
+            .is_none_or(|extension| extension != "lines")
+        {
+            continue;
+        }
+        runs += 1;
+        let lines = text(&path);
+        let records = lines.lines().filter(|line| !line.contains(" 7 0 - - -"));
+        let rows = shown(Notation::Replay, &lines);
+        let mut numbers: Vec<_> = rows.lines().map(|row| row[..5].trim_start()).collect();
+        numbers.dedup();
+        assert!(numbers
+            .into_iter()
+            .eq(records.map(|line| line.split(' ').next().unwrap())));
+    }
+    assert!(runs > 1);
+}
+
+/// P6: a total of 2905 goes out as Initiate with data size 2901, Segment 1452 and Complete 1.
+#[test]
+fn a_long_write() {
+    let picture = picture("long-write");
+    let sent: Vec<_> = picture
+        .lines()
+        .filter(|row| row.contains("WriteByIndex"))
+        .collect();
+    let starts = [
+        "  ask     to     5  WriteByIndex  Initiate   2100:01  1452 bytes  transaction   1  ",
+        "  ask     to     5  WriteByIndex  Segment             1452 bytes  transaction   1  ",
+        "  ask     to     5  WriteByIndex  Complete               1 byte   transaction   1  ",
+    ];
+    assert_eq!(sent.len(), starts.len());
+    for (row, start) in sent.iter().zip(starts) {
+        assert!(row[5..].starts_with(start), "{row}");
+    }
+    assert!(sent[0].contains("  data size 2901, data "));
+    assert!(sent[0].ends_with(" and 1416 more"));
+    assert!(picture.ends_with("  reply   end    5  Complete      1 delivered\n"));
+}

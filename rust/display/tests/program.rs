@@ -1,0 +1,85 @@
+//! The program: its arguments, exit status and colours.
+
+use std::io::Write;
+use std::process::{Command, Output, Stdio};
+
+fn run(arguments: &[&str], input: &[u8]) -> Output {
+    let mut program = Command::new(env!("CARGO_BIN_EXE_display"))
+        .args(arguments)
+        .env_remove("NO_COLOR")
+        .stdin(Stdio::piped())
+        .stdout(Stdio::piped())
+        .stderr(Stdio::piped())
+        .spawn()
+        .unwrap();
+    let mut stdin = program.stdin.take().unwrap();
+    // A program that was called wrongly does not read it.
+    let _ = stdin.write_all(input);
+    drop(stdin);
+    program.wait_with_output().unwrap()
+}
+
+/// The text that is shown where nothing is told on standard error.
+fn shown(arguments: &[&str], input: &[u8], status: i32) -> String {
+    let output = run(arguments, input);
+    assert_eq!(output.status.code(), Some(status));
+    assert!(output.stderr.is_empty());
+    String::from_utf8(output.stdout).unwrap()
+}
+
+/// The abort of a timeout with its end, and another node's job that ended Complete: two red rows, one green.
+const LINES: &[u8] = b"8 5 0 5 02080000000120000400000000000405 5:T:0\n9 6 0 - - 6:C:3\n";
+
+#[test]
+fn colours_where_they_are_asked_for() {
+    let plain =
+        "    8  tick    to     5  Nil           Abort                  4 bytes  transaction   1  \
+                 send  2 none     receive  0 valid  code 05040000\n    \
+                 8  tick    end    5  Timeout       0 delivered\n    \
+                 9  ask     end    6  Complete      3 delivered\n";
+    for arguments in [
+        &["replay"][..],
+        &["replay", "--color=auto"],
+        &["--color=never", "replay"],
+    ] {
+        assert_eq!(shown(arguments, LINES, 0), plain);
+    }
+    let coloured = shown(&["replay", "--color=always"], LINES, 0);
+    let starts: Vec<_> = coloured.lines().map(|line| &line[..5]).collect();
+    assert_eq!(starts, ["\x1B[31m", "\x1B[31m", "\x1B[32m"]);
+    assert!(coloured.lines().all(|line| line.ends_with("\x1B[0m")));
+    let bare = coloured.replace("\x1B[31m", "").replace("\x1B[32m", "");
+    assert_eq!(bare.replace("\x1B[0m", ""), plain);
+}
+
+#[test]
+fn a_bad_line_is_told_the_rest_is_shown_and_the_status_is_1() {
+    let text = shown(&[], b"5 > FC01\n5 > FC0100000001000000000000\n", 1);
+    let mut rows = text.lines();
+    assert_eq!(rows.next(), Some("line 1: refused 1 BufferTooShort"));
+    assert!(rows.next().unwrap().starts_with("to     5  Nil  "));
+    assert_eq!(rows.next(), None);
+    let told =
+        "line 1: expected six fields: record number, operation, refusal, node, bytes, ends\n";
+    assert_eq!(shown(&["replay"], b"FC01\n", 1), told);
+}
+
+#[test]
+fn the_programs_arguments() {
+    let help = shown(&["--help"], b"", 0);
+    assert!(help.starts_with("usage: display"));
+    assert_eq!(shown(&["replay", "--help"], b"", 0), help);
+    for arguments in [
+        &["frames"][..],
+        &["--color"],
+        &["--color=sometimes"],
+        &["replay", "file"],
+        &["-h"],
+        &[""],
+    ] {
+        let output = run(arguments, b"");
+        assert_eq!(output.status.code(), Some(2), "{arguments:?}");
+        assert!(output.stdout.is_empty());
+        assert_eq!(output.stderr, help.as_bytes());
+    }
+}

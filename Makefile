@@ -9,9 +9,10 @@ test:
 TRACE = traces/document01.trace
 replay:
 	@rt check replay 1>&2
-	@case '$(TRACE)' in *.txt) $(MAKE) -s trace < '$(TRACE)' | target/bin/replay ;; *) target/bin/replay < '$(TRACE)' ;; esac
+	@tests/programs
+	@case '$(TRACE)' in *.txt) $(MAKE) -s trace < '$(TRACE)' | target/run/replay ;; *) target/run/replay < '$(TRACE)' ;; esac
 
-# The static library for C and Rust: target/staticlib/libostelumiv.a, with include/ostelumiv.h.
+# The static library for C and Rust on x86-64: target/staticlib/libostelumiv.a, with include/ostelumiv.h.
 lib:
 	@rt staticlib ostelumiv 1>&2
 
@@ -32,23 +33,25 @@ trace:
 RECORDS = 1000000
 compare:
 	@rt check replay replay_states 1>&2
+	@tests/programs
 	@cd rust && cargo build --release --offline --quiet -p trace -p replay_oracle
 	@tests/traces
 	@tests/random
 	@rust/target/release/replay_oracle compare $(RECORDS)
 
 # What Wireshark's dissector reads in the frames that the client sends, held to what was sent: those of the file that LINES names, which
-# has lines of the replay; without it those of traces/ through target/bin/replay. An exported LINES is the terminal's height, not a file.
+# has lines of the replay; without it those of traces/ through target/run/replay. An exported LINES is the terminal's height, not a file.
 dissect: FILES = $(if $(filter command,$(firstword $(origin LINES))),$(LINES))
 dissect:
 	@cd rust && cargo build --release --offline --quiet -p trace -p capture
 	@tests/dissect $(FILES)
 
-# Instructions of our codec and of our replay, and of the repository's, by callgrind. Debian's package valgrind is installed if it is not
-# there.
+# Instructions of our codec and of our replay, and of the repository's, by callgrind, on x86-64. Debian's package valgrind is installed if
+# it is not there.
 bench: lib
 	command -v valgrind > /dev/null || { apt-get update && apt-get install -y valgrind; }
 	cd rust && cargo run --release --offline --quiet -p bench
 	@rt check replay 1>&2
+	@tests/programs
 	@cd rust && cargo build --release --offline --quiet -p trace -p replay_oracle
 	@tests/bench

@@ -1,7 +1,7 @@
 //! Links the static library of the C functions, libostelumiv.a.
 //!
 //! Its folder is the one that OSTELUMIV_LIB names (from the root of this repository, where it is no
-//! absolute path), else target/staticlib at that root.
+//! absolute path), else target/staticlib at that root. It is for x86-64.
 
 use std::env;
 use std::path::PathBuf;
@@ -22,6 +22,9 @@ fn main() {
             "cargo::warning={} is not there: make it first, or name its folder in {VARIABLE}",
             library.display()
         );
+    }
+    if env::var("CARGO_CFG_TARGET_ARCH").as_deref() != Ok("x86_64") {
+        println!("cargo::warning=the library is for x86-64, and this build is not");
     }
     println!("cargo::rustc-link-search=native={}", folder.display());
     println!("cargo::rustc-link-lib=static=ostelumiv");

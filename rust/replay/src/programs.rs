@@ -7,7 +7,7 @@ use std::process::{Command, Stdio};
 use std::thread;
 
 const VARIABLE: &str = "OSTELUMIV_BIN";
-const DEFAULT_FOLDER: &str = "../../target/bin";
+const DEFAULT_FOLDER: &str = "../../target/run";
 
 /// A program that is there.
 pub struct Program {
@@ -16,7 +16,7 @@ pub struct Program {
 }
 
 impl Program {
-    /// Looks in the folder that OSTELUMIV_BIN names, else in target/bin at the root of this
+    /// Looks in the folder that OSTELUMIV_BIN names, else in target/run at the root of this
     /// repository. An error says that it is not there.
     pub fn find(name: &'static str) -> Result<Self, String> {
         let default = Path::new(env!("CARGO_MANIFEST_DIR")).join(DEFAULT_FOLDER);

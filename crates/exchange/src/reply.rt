@@ -5,9 +5,10 @@ ghost use mathlib.Core.List.{List};
 ghost use Prim.Native.Nat.{_+_};
 ghost use lib.ListN.{length};
 ghost use Rattle.sdo.specs.Record.{nextTransaction};
-ghost use Rattle.exchange.specs.Reply.{cleared as clearedOf, inState, oneMore, deliveredOne, replyNext, replySent, withBytes, roomFor, storedLast, storedMore, replyFirst, replyMore, receiveInitializes, sendInitializes, replyOpening, replyIn, replyTaken, replyHeard, replyTo, replyOf, replied, roomAfter};
+ghost use Rattle.exchange.specs.Reply.{cleared as clearedOf, deliveredOne, inState, oneMore, receiveInitializes, replied, replyFirst, replyHeard, replyIn, replyMore, replyNext, replyOf, replyOpening, replySent, replyTaken, replyTo, roomAfter, roomFor, sendInitializes, storedLast, storedMore, withBytes, withJob, withTransfer};
 use codec::command::SdoCommand;
 use codec::command::Segmentation;
+use codec::dcf::DcfCursor;
 use codec::dcf::DcfStep;
 use codec::dcf::dcf_step;
 use codec::octets::put;
@@ -97,13 +98,24 @@ fn delivered_one(j: SdoJob) -> SdoJob
     }
 }
 
-// All of a transfer was sent and answered: the next entry is loaded, or the job is ended.
-fn reply_next(d: DcfStep, c: SdoClientConnection) -> SdoClientConnection
-    ensures { λ r. ⌜ r ≡ replyNext d c ⌝ }
+fn with_transfer(j: SdoJob, t: Transfer, next: DcfCursor) -> SdoJob
+    ensures { λ r. ⌜ r ≡ withTransfer j t next ⌝ }
 {
-    let before = c.job;
-    let job = delivered_one(before);
-    let done = SdoClientConnection {
+    SdoJob {
+        size: j.size,
+        cursor: next,
+        loaded: LoadedTransfer::Loaded(t),
+        offset: 0,
+        uploaded: j.uploaded,
+        delivered: j.delivered,
+        ..j
+    }
+}
+
+fn with_job(c: SdoClientConnection, job: SdoJob) -> SdoClientConnection
+    ensures { λ r. ⌜ r ≡ withJob c job ⌝ }
+{
+    SdoClientConnection {
         target_node_id: c.target_node_id,
         room: c.room,
         transaction_id: c.transaction_id,
@@ -111,7 +123,15 @@ fn reply_next(d: DcfStep, c: SdoClientConnection) -> SdoClientConnection
         last_received_sequence_number: c.last_received_sequence_number,
         job,
         ..c
-    };
+    }
+}
+
+// All of a transfer was sent and answered: the next entry is loaded, or the job is ended.
+fn reply_next(d: DcfStep, c: SdoClientConnection) -> SdoClientConnection
+    ensures { λ r. ⌜ r ≡ replyNext d c ⌝ }
+{
+    let before = c.job;
+    let job = delivered_one(before);
     match d {
         DcfStep::Entry {
             index,
@@ -120,6 +140,12 @@ fn reply_next(d: DcfStep, c: SdoClientConnection) -> SdoClientConnection
             len,
             next,
         } => {
+            let t = Transfer {
+                index,
+                sub_index,
+                start,
+                len,
+            };
             return SdoClientConnection {
                 target_node_id: c.target_node_id,
                 room: c.room,
@@ -127,25 +153,12 @@ fn reply_next(d: DcfStep, c: SdoClientConnection) -> SdoClientConnection
                 transaction_id: next_transaction(c.transaction_id),
                 send_sequence_number: c.send_sequence_number,
                 last_received_sequence_number: c.last_received_sequence_number,
-                job: SdoJob {
-                    size: job.size,
-                    cursor: next,
-                    loaded: LoadedTransfer::Loaded(Transfer {
-                        index,
-                        sub_index,
-                        start,
-                        len,
-                    }),
-                    offset: 0,
-                    uploaded: job.uploaded,
-                    delivered: job.delivered,
-                    ..job
-                },
+                job: with_transfer(job, t, next),
                 ..c
             };
         }
-        DcfStep::End => return ended(done, Reason::Complete),
-        DcfStep::Unreadable => return ended(done, Reason::Cut),
+        DcfStep::End => return ended(with_job(c, job), Reason::Complete),
+        DcfStep::Unreadable => return ended(with_job(c, job), Reason::Cut),
     }
 }
 
@@ -170,21 +183,14 @@ fn with_bytes(c: SdoClientConnection, n: usize) -> SdoClientConnection
     ensures { λ r. ⌜ r ≡ withBytes c n ⌝ }
 {
     let job = c.job;
-    SdoClientConnection {
-        target_node_id: c.target_node_id,
-        room: c.room,
-        transaction_id: c.transaction_id,
-        send_sequence_number: c.send_sequence_number,
-        last_received_sequence_number: c.last_received_sequence_number,
-        job: SdoJob {
-            size: job.size,
-            offset: job.offset,
-            uploaded: n,
-            delivered: job.delivered,
-            ..job
-        },
-        ..c
-    }
+    let uploaded = SdoJob {
+        size: job.size,
+        offset: job.offset,
+        uploaded: n,
+        delivered: job.delivered,
+        ..job
+    };
+    with_job(c, uploaded)
 }
 
 fn room_for(from: usize, n: usize, room: &[u8]) -> RoomFor

@@ -2,7 +2,6 @@
 use crate::parameters::Parameters;
 use crate::parameters::absent;
 use crate::parameters::read_parameters;
-use crate::state::Upload;
 use crate::state::byte;
 use crate::state::complete;
 use crate::state::print_state;
@@ -17,12 +16,14 @@ use table::types::SdoClientManager;
 use trace::apply::apply;
 use trace::line::write_line;
 
-// How far a run is: the manager, the bytes gathered, the records read and the text not yet written.
+// How far a run is: the manager, the bytes gathered, the records read, the text not yet written, and whether the last record ended its
+// node's job Complete.
 pub struct Run {
     pub manager: SdoClientManager,
     pub gathered: usize,
     pub number: u16,
     pub text: usize,
+    pub complete: bool,
 }
 
 fn started() -> Run {
@@ -31,6 +32,7 @@ fn started() -> Run {
         gathered: 0,
         number: 0,
         text: 0,
+        complete: false,
     }
 }
 
@@ -96,24 +98,6 @@ fn record_at(input: &[u8], at: usize) -> &[u8] {
     part(input, at, if left < 32 { left } else { 32 })
 }
 
-// Where states are shown, the text goes out and the state after it; where the text ends then.
-fn shown(
-    states: bool,
-    at: usize,
-    m: SdoClientManager,
-    u: Upload,
-    ended: bool,
-    store: &[u8; 32768],
-    text: &[u8; 65536],
-) -> usize {
-    if states {
-        write_out(text, at);
-        print_state(m, u, ended, store);
-        return 0;
-    }
-    at
-}
-
 // One record: applied, and its line written. At most 65,535 are read.
 fn one(
     run: Run,
@@ -131,7 +115,6 @@ fn one(
     let timeout = p.timeout;
     let retries = p.retries;
     let before = run.manager;
-    let upload = upload_before(p.states, before, run.gathered, b);
     let applied = apply(
         before,
         run.gathered,
@@ -146,13 +129,12 @@ fn one(
     let manager = done.manager;
     let answer = done.answer;
     let ends = done.ends;
-    let end = told(run.text, number, b, answer, ends, output, text);
-    let ended = complete(ends, byte(b, 1));
     Run {
         manager,
         gathered: applied.gathered,
         number,
-        text: shown(p.states, end, manager, upload, ended, store, text),
+        text: told(run.text, number, b, answer, ends, output, text),
+        complete: complete(ends, byte(b, 1)),
     }
 }
 
@@ -169,7 +151,55 @@ fn piece(
     let mut r = run;
     let mut at: usize = 0;
     while at < input.len() {
-        r = one(r, p, record_at(input, at), store, gather, output, text);
+        if input.len() - at < 32 {
+            let b = part(input, at, input.len() - at);
+            return one(r, p, b, store, gather, output, text);
+        }
+        r = one(r, p, part(input, at, 32), store, gather, output, text);
+        at += 32;
+    }
+    r
+}
+
+// A record by itself, its line followed by the manager's state.
+fn one_shown(
+    run: Run,
+    p: Parameters,
+    b: &[u8],
+    store: &mut [u8; 32768],
+    gather: &mut [u8; 4112],
+    output: &mut [u8; 1452],
+    text: &mut [u8; 65536],
+) -> Run {
+    if run.number == 65535 {
+        return run;
+    }
+    let before = run.manager;
+    let upload = upload_before(before, run.gathered, b);
+    let after = piece(run, p, b, store, gather, output, text);
+    let held = after.manager;
+    write_out(text, after.text);
+    print_state(held, upload, after.complete, store);
+    Run { text: 0, ..after }
+}
+
+// The records of a piece, each line followed by the manager's state where states are shown.
+fn piece_by(
+    run: Run,
+    p: Parameters,
+    input: &[u8],
+    store: &mut [u8; 32768],
+    gather: &mut [u8; 4112],
+    output: &mut [u8; 1452],
+    text: &mut [u8; 65536],
+) -> Run {
+    if !p.states {
+        return piece(run, p, input, store, gather, output, text);
+    }
+    let mut r = run;
+    let mut at: usize = 0;
+    while at < input.len() {
+        r = one_shown(r, p, record_at(input, at), store, gather, output, text);
         if input.len() - at < 32 {
             break;
         }
@@ -189,7 +219,7 @@ fn run_by(p: Parameters) {
     let mut pieces: usize = 0;
     while pieces < 32 {
         let n = fill(&mut input);
-        run = piece(
+        run = piece_by(
             run,
             p,
             first(&input, n),

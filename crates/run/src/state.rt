@@ -146,11 +146,8 @@ fn upload_of(c: SdoClientConnection, more: usize) -> Upload {
     Upload::Nothing
 }
 
-// The upload of the node that a record replies for, where states are shown.
-pub(crate) fn upload_before(shown: bool, m: SdoClientManager, gathered: usize, b: &[u8]) -> Upload {
-    if !shown {
-        return Upload::Nothing;
-    }
+// The upload of the node that a record replies for.
+pub(crate) fn upload_before(m: SdoClientManager, gathered: usize, b: &[u8]) -> Upload {
     let list = m.connections;
     if byte(b, 0) != 4 {
         return Upload::Nothing;

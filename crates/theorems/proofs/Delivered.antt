@@ -63,9 +63,6 @@ module _ (a : Aim) (node at : ℕ) (slot : Slotted at) where
       (λ u. followed xs (d .manager) (d .store) now (g .same) u))
 
 -- ---- the start of the job itself
-abbrev aimIn : Sends → Bytes → Aim
-aimIn job room = record { room = room; job = bytesOf job; entries = entriesOf job; count = counted job }
-
 start-of : (job : Sends) (c : Connection) (t : ℕ) (n : Now) (room : Bytes) → startJob (jobOf job) c t n room ≡ startOf c t n job room
 start-of (writes index sub bytes) c t n room = refl
 start-of (loads dcf) c t n room = refl

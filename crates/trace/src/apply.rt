@@ -176,27 +176,26 @@ fn perform(
         Operation::Uses(u) => {
             put(gather, held, own);
             let n = held + own.len();
-            let done = use_bytes(u, r, m, when, part(gather, 0, n), store);
-            return Applied { done, gathered: 0 };
+            return Applied {
+                done: use_bytes(u, r, m, when, part(gather, 0, n), store),
+                gathered: 0,
+            };
         }
         Operation::Read => {
-            let done = read_object_by_index(m, r.node, r.index, r.sub_index, when, store);
             return Applied {
-                done,
+                done: read_object_by_index(m, r.node, r.index, r.sub_index, when, store),
                 gathered: held,
             };
         }
         Operation::Tick => {
-            let done = tick(m, when, store, output);
             return Applied {
-                done,
+                done: tick(m, when, store, output),
                 gathered: held,
             };
         }
         Operation::Ask => {
-            let done = get_pending_request(m, when, store, output);
             return Applied {
-                done,
+                done: get_pending_request(m, when, store, output),
                 gathered: held,
             };
         }

@@ -1,6 +1,5 @@
 -- `exchange::reply::reply_next` meets its contract: each arm is one case of its definition. Assumes nothing.
-use mathlib.Core.Path.{refl}
-use mathlib.Core.Path.{_∙_}
+use mathlib.Core.Path.{refl, _∙_}
 use Rattle.exchange.specs.Reply.{replyNext}
 use Rattle.laws.proofs.Answers.{told}
 use borrow.Author.Needs.{needs}
@@ -10,17 +9,17 @@ use Rattle.exchange.proofs.reply.reply_next.Tie as tie
 returns : tie.Need-returns
 returns c =
     let a = c .before .before .before .before .before .before .before .before .args in
-    told (λ x. replyNext x (a .c)) refl (c .before .before .before .d .given .1) (rw (c .before .next-transaction .ensures, c .before .before .before .before .before .before .delivered-one .ensures))
+    told (λ x. replyNext x (a .c)) refl (c .before .before .before .before .d .given .1) (rw (c .before .with-transfer .ensures, c .before .before .next-transaction .ensures, c .before .before .before .before .before .before .delivered-one .ensures))
 
 returns-2 : tie.Need-returns-2
 returns-2 c =
     let a = c .before .before .before .before .before .before .args in
-    told (λ x. replyNext x (a .c)) refl (c .before .enum-told .given .1) (c .ended .ensures ∙ rw (c .before .before .before .before .delivered-one .ensures))
+    told (λ x. replyNext x (a .c)) refl (c .before .before .enum-told .given .1) (c .ended .ensures ∙ rw (c .before .with-job .ensures, c .before .before .before .before .delivered-one .ensures))
 
 returns-3 : tie.Need-returns-3
 returns-3 c =
     let a = c .before .before .before .before .before .before .args in
-    told (λ x. replyNext x (a .c)) refl (c .before .enum-told2 .given .1) (c .ended2 .ensures ∙ rw (c .before .before .before .before .delivered-one .ensures))
+    told (λ x. replyNext x (a .c)) refl (c .before .before .enum-told2 .given .1) (c .ended2 .ensures ∙ rw (c .before .with-job2 .ensures, c .before .before .before .before .delivered-one .ensures))
 
 pub reply-next-spec : {M : Type 1} → statement M
 reply-next-spec =
@@ -29,10 +28,13 @@ reply-next-spec =
     (λ c κs. search needs)
     (λ c. search needs)
     (λ c κs. search needs)
+    (λ c κs. search needs)
     returns
     (λ c. search needs)
     (λ c κs. search needs)
+    (λ c κs. search needs)
     returns-2
     (λ c. search needs)
+    (λ c κs. search needs)
     (λ c κs. search needs)
     returns-3)

@@ -18,11 +18,14 @@ piece-spec =
     Inv-loop
     μ-loop
     (λ c. tt)
+    (λ c. search needs)
+    (λ c. search needs)
     (λ c κs. search needs)
     (λ c κs. search needs)
     (λ c. search needs)
+    (λ c κs. search needs)
+    (λ c κs. search needs)
     (λ c. search needs)
     (λ c. search needs)
     (λ c. tt)
-    (λ c. search needs)
     (λ c. search needs))

@@ -5,10 +5,10 @@ use Rattle.run.proofs.state.upload_before.Statement.{statement}
 use Rattle.run.proofs.state.upload_before.Tie as tie
 
 abbrev Inv-loop : tie.InvT-loop
-Inv-loop shown m gathered b list i₀ i = Unit {0}
+Inv-loop m gathered b list i₀ i = Unit {0}
 
 abbrev μ-loop : tie.MeasureT-loop
-μ-loop shown m gathered b list i₀ i = 8 - i
+μ-loop m gathered b list i₀ i = 8 - i
 
 pub upload-before-spec : {M : Type 1} → statement M
 upload-before-spec =
@@ -16,7 +16,6 @@ upload-before-spec =
     (tie.spec
     Inv-loop
     μ-loop
-    (λ c. search needs)
     (λ c κs. search needs)
     (λ c. search needs)
     (λ c. search needs)

@@ -1,0 +1,30 @@
+-- `run::replay::piece_by` is safe and ends: the measure is what is left. Assumes nothing.
+use Prim.Native.Nat.{_-_}
+use lib.ListN.{length}
+use borrow.Author.Needs.{needs}
+use Rattle.run.proofs.replay.piece_by.Statement.{statement}
+use Rattle.run.proofs.replay.piece_by.Tie as tie
+
+abbrev Inv-loop : tie.InvT-loop
+Inv-loop p input store₀ gather₀ output₀ text₀ r₀ at₀ store gather output text r at = Unit {0}
+
+abbrev μ-loop : tie.MeasureT-loop
+μ-loop p input store₀ gather₀ output₀ text₀ r₀ at₀ store gather output text r at = length input - at
+
+pub piece-by-spec : {M : Type 1} → statement M
+piece-by-spec =
+    tie.close
+    (tie.spec
+    Inv-loop
+    μ-loop
+    (λ c κs. search needs)
+    (λ c. search needs)
+    (λ c. tt)
+    (λ c κs. search needs)
+    (λ c κs. search needs)
+    (λ c. search needs)
+    (λ c. search needs)
+    (λ c. search needs)
+    (λ c. tt)
+    (λ c. search needs)
+    (λ c. search needs))

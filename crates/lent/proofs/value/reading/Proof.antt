@@ -1,0 +1,14 @@
+-- `lent::value::reading` meets its contract: what a read start comes to by value, its parts kept apart. Assumes nothing.
+use mathlib.Core.Path.{ap, _∙_}
+use Rattle.lent.specs.Lent.{keptOf}
+use borrow.Author.Needs.{needs}
+use Rattle.lent.proofs.value.reading.Statement.{statement}
+use Rattle.lent.proofs.value.reading.Tie as tie
+
+pub reading-spec : {M : Type 1} → statement M
+reading-spec =
+    tie.close
+    (tie.spec
+    (λ c κs. search needs)
+    (λ c κs. search needs)
+    (λ c. c .kept-of .ensures ∙ ap keptOf (c .before .read-object-by-index .ensures)))

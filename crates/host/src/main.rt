@@ -1,0 +1,162 @@
+// A host of the manager: what a panel programmer copies. It owns the clock, the wire, the store and the manager, and lends the manager to
+// each call (loan). Here the wire leads to a simulated cell (cell), and what happens is written to standard output (print), which is held
+// to the file stdout.
+use lent::types::Kept;
+use manager::types::Answer;
+use manager::types::SentTo;
+use sdo::Deadline;
+use sdo::Now;
+use sdo::Parameter;
+use table::types::SdoClientManager;
+
+mod cell;
+mod loan;
+mod print;
+
+// What is there between two turns, beside the store: the host's manager, and the cell at the other end of the wire.
+struct Host {
+    manager: SdoClientManager,
+    cell: cell::Cell,
+}
+
+// The time, with timeout and retries absent: document 01 takes 15 seconds and 2 then.
+fn at(time: u64) -> Now {
+    Now {
+        time,
+        timeout: Parameter::Absent,
+        retries: Parameter::Absent,
+    }
+}
+
+// A job is started: its DCF is copied into the store, and nothing goes out yet.
+fn start(
+    m: SdoClientManager,
+    node: u8,
+    dcf: &[u8],
+    time: u64,
+    store: &mut [u8; 32768],
+) -> SdoClientManager {
+    let none = [0u8; 0];
+    let kept = loan::load(m, node, dcf, at(time), store);
+    let told = kept.told;
+    print::told(told, &none);
+    kept.manager
+}
+
+// A frame can go out: the manager is asked what is to be sent.
+fn ask(m: SdoClientManager, time: u64, store: &[u8; 32768], output: &mut [u8; 1452]) -> Kept {
+    let kept = loan::ask(m, at(time), store, output);
+    let told = kept.told;
+    print::told(told, output);
+    kept
+}
+
+// A command goes to the cell, and the cell's answer to the manager.
+fn answered(h: Host, sent: SentTo, store: &mut [u8; 32768], output: &[u8; 1452]) -> Host {
+    let manager = h.manager;
+    let cell = h.cell;
+    let command = sent.command;
+    let none = [0u8; 0];
+    let a = cell::answer(cell, sent, print::payload_of(command, output));
+    let seq = a.sequence;
+    let cmd = a.command;
+    let left = a.cell;
+    print::frame(b"from ", sent.node, seq, cmd, &none);
+    let kept = loan::reply(manager, sent.node, seq, cmd, &none, store);
+    let told = kept.told;
+    let after = kept.manager;
+    print::told(told, &none);
+    Host {
+        manager: after,
+        cell: left,
+    }
+}
+
+// A turn with a cell that answers.
+fn turn(h: Host, time: u64, store: &mut [u8; 32768], output: &mut [u8; 1452]) -> Host {
+    let manager = h.manager;
+    let cell = h.cell;
+    let kept = ask(manager, time, store, output);
+    let told = kept.told;
+    let after = kept.manager;
+    let answer = told.answer;
+    let on = Host {
+        manager: after,
+        cell,
+    };
+    let Answer::Sent(sent) = answer else {
+        return on;
+    };
+    answered(on, sent, store, output)
+}
+
+// Nothing came: the clock goes on to the next action time, and tick is called there.
+fn later(m: SdoClientManager, store: &[u8; 32768], output: &mut [u8; 1452]) -> SdoClientManager {
+    let due = loan::next(m);
+    print::next(due);
+    let Deadline::At(time) = due else {
+        return m;
+    };
+    let kept = loan::tick(m, at(time), store, output);
+    let told = kept.told;
+    print::told(told, output);
+    kept.manager
+}
+
+// Document 01's P7, two entries: the opening, and a write for each.
+fn whole(h: Host, store: &mut [u8; 32768], output: &mut [u8; 1452]) -> Host {
+    let manager = h.manager;
+    let cell = h.cell;
+    let dcf = b"\x02\0\0\0\x00\x21\x01\x02\0\0\0\x01\x04\x01\x21\x00\0\0\0\0";
+    print::text(b"node 5, a DCF of two entries\n");
+    let started = Host {
+        manager: start(manager, 5, dcf, 0, store),
+        cell,
+    };
+    let opened = turn(started, 0, store, output);
+    let first = turn(opened, 0, store, output);
+    let second = turn(first, 0, store, output);
+    let loaded = second.cell;
+    print::objects(loaded);
+    second
+}
+
+// P8, its last byte dropped: the second entry is not readable, and the job ends Cut with the one that was delivered.
+fn cut(h: Host, store: &mut [u8; 32768], output: &mut [u8; 1452]) -> Host {
+    let manager = h.manager;
+    let cell = h.cell;
+    let dcf = b"\x02\0\0\0\x00\x21\x01\x02\0\0\0\x01\x04\x01\x21\x00\0\0\0";
+    print::text(b"node 5, the same DCF without its last byte\n");
+    let started = Host {
+        manager: start(manager, 5, dcf, 1000000, store),
+        cell,
+    };
+    let opened = turn(started, 1000000, store, output);
+    turn(opened, 1000000, store, output)
+}
+
+// Nobody answers: two repeats, the abort command, and then there is nothing to wait for.
+fn silent(m: SdoClientManager, store: &mut [u8; 32768], output: &mut [u8; 1452]) {
+    let dcf = b"\x02\0\0\0\x00\x21\x01\x02\0\0\0\x01\x04\x01\x21\x00\0\0\0\0";
+    print::text(b"node 7, which does not answer\n");
+    let started = start(m, 7, dcf, 2000000, store);
+    let kept = ask(started, 2000000, store, output);
+    let asked = kept.manager;
+    let once = later(asked, store, output);
+    let twice = later(once, store, output);
+    let aborted = later(twice, store, output);
+    later(aborted, store, output);
+}
+
+fn main() {
+    let mut store = [0u8; 32768];
+    let mut output = [0u8; 1452];
+    let new = Host {
+        manager: SdoClientManager::new(),
+        cell: cell::new(),
+    };
+    let loaded = whole(new, &mut store, &mut output);
+    let again = cut(loaded, &mut store, &mut output);
+    let manager = again.manager;
+    silent(manager, &mut store, &mut output);
+}

@@ -1,6 +1,7 @@
 // A host of the manager: what a panel programmer copies. It owns the clock, the wire, the store and the manager, and lends the manager to
 // each call (loan). Here the wire leads to a simulated cell (cell), and what happens is written to standard output (print), which is held
 // to the file stdout.
+use codec::octets::part;
 use lent::types::Kept;
 use manager::types::Answer;
 use manager::types::SentTo;
@@ -103,44 +104,29 @@ fn later(m: SdoClientManager, store: &[u8; 32768], output: &mut [u8; 1452]) -> S
     kept.manager
 }
 
-// Document 01's P7, two entries: the opening, and a write for each.
-fn whole(h: Host, store: &mut [u8; 32768], output: &mut [u8; 1452]) -> Host {
+// A load: a job is started, and then there are as many turns as an opening and two entries take.
+fn load(h: Host, dcf: &[u8], time: u64, store: &mut [u8; 32768], output: &mut [u8; 1452]) -> Host {
     let manager = h.manager;
     let cell = h.cell;
-    let dcf = b"\x02\0\0\0\x00\x21\x01\x02\0\0\0\x01\x04\x01\x21\x00\0\0\0\0";
-    print::text(b"node 5, a DCF of two entries\n");
     let started = Host {
-        manager: start(manager, 5, dcf, 0, store),
+        manager: start(manager, 5, dcf, time, store),
         cell,
     };
-    let opened = turn(started, 0, store, output);
-    let first = turn(opened, 0, store, output);
-    let second = turn(first, 0, store, output);
-    let loaded = second.cell;
-    print::objects(loaded);
-    second
-}
-
-// P8, its last byte dropped: the second entry is not readable, and the job ends Cut with the one that was delivered.
-fn cut(h: Host, store: &mut [u8; 32768], output: &mut [u8; 1452]) -> Host {
-    let manager = h.manager;
-    let cell = h.cell;
-    let dcf = b"\x02\0\0\0\x00\x21\x01\x02\0\0\0\x01\x04\x01\x21\x00\0\0\0";
-    print::text(b"node 5, the same DCF without its last byte\n");
-    let started = Host {
-        manager: start(manager, 5, dcf, 1000000, store),
-        cell,
-    };
-    let opened = turn(started, 1000000, store, output);
-    turn(opened, 1000000, store, output)
+    let opened = turn(started, time, store, output);
+    let first = turn(opened, time, store, output);
+    turn(first, time, store, output)
 }
 
 // Nobody answers: two repeats, the abort command, and then there is nothing to wait for.
-fn silent(m: SdoClientManager, store: &mut [u8; 32768], output: &mut [u8; 1452]) {
-    let dcf = b"\x02\0\0\0\x00\x21\x01\x02\0\0\0\x01\x04\x01\x21\x00\0\0\0\0";
-    print::text(b"node 7, which does not answer\n");
-    let started = start(m, 7, dcf, 2000000, store);
-    let kept = ask(started, 2000000, store, output);
+fn silent(
+    m: SdoClientManager,
+    dcf: &[u8],
+    time: u64,
+    store: &mut [u8; 32768],
+    output: &mut [u8; 1452],
+) {
+    let started = start(m, 7, dcf, time, store);
+    let kept = ask(started, time, store, output);
     let asked = kept.manager;
     let once = later(asked, store, output);
     let twice = later(once, store, output);
@@ -148,15 +134,23 @@ fn silent(m: SdoClientManager, store: &mut [u8; 32768], output: &mut [u8; 1452])
     later(aborted, store, output);
 }
 
+// Document 01's P7, two entries; and P8, its last byte dropped: the second entry is not readable, and the job ends Cut with the one that
+// was delivered.
 fn main() {
     let mut store = [0u8; 32768];
     let mut output = [0u8; 1452];
+    let dcf = b"\x02\0\0\0\x00\x21\x01\x02\0\0\0\x01\x04\x01\x21\x00\0\0\0\0";
     let new = Host {
         manager: SdoClientManager::new(),
         cell: cell::new(),
     };
-    let loaded = whole(new, &mut store, &mut output);
-    let again = cut(loaded, &mut store, &mut output);
-    let manager = again.manager;
-    silent(manager, &mut store, &mut output);
+    print::text(b"node 5, a DCF of two entries\n");
+    let whole = load(new, dcf, 0, &mut store, &mut output);
+    let loaded = whole.cell;
+    print::objects(loaded);
+    print::text(b"node 5, the same DCF without its last byte\n");
+    let cut = load(whole, part(dcf, 0, 19), 1000000, &mut store, &mut output);
+    let manager = cut.manager;
+    print::text(b"node 7, which does not answer\n");
+    silent(manager, dcf, 2000000, &mut store, &mut output);
 }

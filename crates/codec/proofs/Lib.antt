@@ -1,4 +1,5 @@
 pub mod Commands
+pub mod Cutting
 pub mod Entries
 pub mod Reading
 pub mod RoundTrips

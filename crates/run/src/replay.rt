@@ -10,11 +10,11 @@ use codec::octets::part;
 use codec::sequence::Written;
 use libc::STDIN_FILENO;
 use libc::STDOUT_FILENO;
+use lines::line::write_line;
 use manager::types::Answer;
 use table::types::Ends;
 use table::types::SdoClientManager;
 use trace::apply::apply;
-use trace::line::write_line;
 
 // How far a run is: the manager, the bytes gathered, the records read, the text not yet written, and whether the last record ended its
 // node's job Complete.

@@ -1,9 +1,5 @@
 pub mod Buffers
-pub mod Ending
-pub mod Lines
 pub mod Operations
 pub mod Performing
-pub mod Putting
 pub mod Records
 pub mod Replies
-pub mod Spelling

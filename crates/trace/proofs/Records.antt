@@ -12,7 +12,7 @@ use Rattle.laws.proofs.Picks.{below, not-below}
 use Rattle.codec.specs.Bytes.{Bytes}
 use Rattle.trace.specs.Record.{operationOf, ownData, recordAt, recordNamed, recordRead}
 use Rattle.trace.specs.Types.{Operation, OperationRead, Record, RecordRead, Refusal}
-use Rattle.trace.proofs.Buffers.{part-short}
+use Rattle.codec.proofs.Cutting.{part-short}
 
 module _ (b : Bytes) where
   pub short-record : length b < 32 → RecordRead.Refused Refusal.ShortRecord ≡ recordRead b

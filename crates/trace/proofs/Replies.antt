@@ -11,7 +11,7 @@ use Rattle.codec.specs.declared.command.CommandRead.{CommandRead}
 use Rattle.codec.proofs.Reading.{command-known, payload-whole, sequence-whole}
 use Rattle.trace.specs.Replay.{flagged, replyCommand}
 use Rattle.trace.specs.Types.{CommandId, DataSize, Refusal, SdoCommand, SequenceLayerHeader, SequenceRead}
-use Rattle.trace.proofs.Buffers.{head-short}
+use Rattle.codec.proofs.Cutting.{head-short}
 
 -- four octets are a header
 module _ (a b : ℕ) {r : SequenceRead} (e : r ≡ sequenceRead (a ∷ b ∷ 0 ∷ 0 ∷ [])) where

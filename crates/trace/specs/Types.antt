@@ -6,15 +6,11 @@ pub use Rattle.codec.specs.declared.refusal.Refusal.{Refusal}
 pub use Rattle.codec.specs.declared.sequence.SequenceLayerHeader.{SequenceLayerHeader}
 pub use Rattle.codec.specs.declared.sequence.SequenceRead.{SequenceRead}
 pub use Rattle.codec.specs.declared.sequence.Written.{Written}
-pub use Rattle.sdo.specs.declared.End.{End}
 pub use Rattle.sdo.specs.declared.Now.{Now}
 pub use Rattle.sdo.specs.declared.Parameter.{Parameter}
-pub use Rattle.sdo.specs.declared.Reason.{Reason}
 pub use Rattle.manager.specs.declared.types.Answer.{Answer}
 pub use Rattle.manager.specs.declared.types.Done.{Done}
-pub use Rattle.table.specs.declared.types.Ends.{Ends}
 pub use Rattle.table.specs.declared.types.SdoClientManager.{SdoClientManager}
-pub use Rattle.manager.specs.declared.types.SentTo.{SentTo}
 pub use Rattle.table.specs.declared.types.Turn.{Turn}
 pub use Rattle.trace.specs.declared.apply.Applied.{Applied}
 pub use Rattle.trace.specs.declared.record.Operation.{Operation}

@@ -20,7 +20,6 @@ ghost use Rattle.trace.specs.Replay.{
   appliedGather,
   appliedOutput,
 };
-use crate::at_most;
 use crate::record::Operation;
 use crate::record::Record;
 use crate::record::RecordRead;
@@ -49,6 +48,7 @@ use manager::types::Answer;
 use manager::types::Done;
 use sdo::Now;
 use sdo::Parameter;
+use sdo::numbers::at_most;
 use table::types::SdoClientManager;
 use table::types::no_ends;
 

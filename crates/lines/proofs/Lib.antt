@@ -1,0 +1,5 @@
+pub mod Buffers
+pub mod Ending
+pub mod Lines
+pub mod Putting
+pub mod Spelling

@@ -1,0 +1,50 @@
+-- What the parts of a line come to. Assumes nothing.
+use Prim.Native.Nat.{ℕ, min, _+_, _-_, _≤_, _<_}
+use native.Mathlib.Nat.{sub-zero, zero-add}
+use native.Mathlib.Omega.{arith}
+use mathlib.Core.Path.{_≡_, refl, sym, ap, _∙_}
+use lib.ListN.{length, getD, take, length-take}
+use lib.Seq.{take-all}
+use Rattle.laws.proofs.Picks.{below, beyond, not-below, within}
+use Rattle.codec.specs.Bytes.{Bytes, partAt}
+use Rattle.codec.proofs.Reading.{part-inside}
+use Rattle.lines.specs.Line.{byteText, lineAnswer, lineBuffer, mostLine, nothing, operationText, sentPayload}
+use Rattle.lines.specs.Text.{Put}
+use Rattle.lines.specs.Types.{Refusal, SentTo, Written}
+use Rattle.lines.proofs.Putting.{put-as}
+
+-- the operation, where the record has none and where it has one
+module _ {out after : Bytes} {at end : ℕ} (b : Bytes) where
+  pub operation-none : length b < 32 → Put out at nothing after end → Put out at (operationText b) after end
+  unfolding operationText
+  operation-none h = put-as (below _ _ _ _ h refl)
+
+  pub operation-some : 32 ≤ length b → Put out at (byteText (getD b 0 0)) after end → Put out at (operationText b) after end
+  unfolding operationText
+  operation-some h = put-as (not-below _ _ _ _ h refl)
+
+-- the payload of a command sent: all of the output, where it is shorter than the segment size and 1,452 bytes, and else its start
+module _ (s : SentTo) (output : Bytes) {n : ℕ} (e : n ≡ min (s .command .header .«segment_size») 1452) where
+  pub payload-all : length output < n → (output ≡ sentPayload s output) × (length output ≤ 1452)
+  payload-all h = (rw (← e, take-all n output (omega arith)), omega arith)
+
+  pub payload-start : {p : Bytes} → n ≤ length output → p ≡ partAt output 0 n → (p ≡ sentPayload s output) × (length p ≤ 1452)
+  payload-start {p} h f =
+      let g : partAt output 0 n ≡ take n output = sym (part-inside output 0 n (omega arith)) ∙ rw (zero-add, sub-zero) in
+      let l = ap length (f ∙ g) ∙ length-take n output in
+      (rw (← e) (f ∙ g), omega arith)
+
+-- a line refused, and written
+module _ (out : Bytes) (at : ℕ) (line : Bytes) where
+  pub line-refused : length out < at + mostLine
+      → (Written.Refused Refusal.BufferTooShort ≡ lineAnswer out at line) × (out ≡ lineBuffer out at line)
+  unfolding lineAnswer lineBuffer
+  line-refused h = (beyond _ _ _ _ h refl, beyond _ _ _ _ h refl)
+
+  pub line-written : {after : Bytes} {end : ℕ} → at + mostLine ≤ length out → Put out at line after end
+      → (Written.Bytes (end - at) ≡ lineAnswer out at line) × (after ≡ lineBuffer out at line)
+  unfolding lineAnswer lineBuffer
+  line-written {after} {end} h p =
+      let f = p .ends in
+      let e : end - at ≡ length line = omega arith in
+      (within _ _ _ _ h (ap Written.Bytes e), within _ _ _ _ h (p .bytes))

@@ -1,0 +1,12 @@
+-- `lines::text::high` meets its contract: the table is the definition's. Assumes nothing.
+use Rattle.lines.specs.Text.{hexDigits}
+use borrow.Author.Needs.{needs}
+use Rattle.lines.proofs.text.high.Statement.{statement}
+use Rattle.lines.proofs.text.high.Tie as tie
+
+returns : tie.Need-returns
+unfolding hexDigits
+returns c = search needs
+
+pub high-spec : {M : Type 1} → statement M
+high-spec = tie.close (tie.spec (λ c. search needs) (λ c. search needs) returns)

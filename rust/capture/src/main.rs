@@ -1,7 +1,7 @@
 //! The program `capture`: its arguments, its standard streams and its exit status.
 
 use std::env;
-use std::io::{self, ErrorKind, Read, Write};
+use std::io;
 use std::process::ExitCode;
 
 const USAGE: &str = "\
@@ -16,44 +16,23 @@ arguments or a failing stream
 ";
 
 const NOT_TAKEN: u8 = 1;
-const FAILED: u8 = 2;
 
 fn main() -> ExitCode {
     let arguments: Vec<_> = env::args_os().skip(1).collect();
-    let answer = match arguments.as_slice() {
+    let done = match arguments.as_slice() {
         [] => capture(),
-        [only] if only == "--help" => put(USAGE.as_bytes()),
-        _ => {
-            eprint!("{USAGE}");
-            return ExitCode::from(FAILED);
-        }
+        [only] if only == "--help" => program::put(USAGE.as_bytes()),
+        _ => return program::called_wrongly(USAGE),
     };
-    match answer {
-        Ok(status) => status,
-        // Whoever reads the output has seen enough of it.
-        Err(error) if error.kind() == ErrorKind::BrokenPipe => ExitCode::SUCCESS,
-        Err(error) => {
-            eprintln!("capture: {error}");
-            ExitCode::from(FAILED)
-        }
-    }
+    program::status("capture", done)
 }
 
 fn capture() -> io::Result<ExitCode> {
-    let mut lines = Vec::new();
-    io::stdin().lock().read_to_end(&mut lines)?;
-    match capture::capture(&lines) {
-        Ok(file) => put(&file),
+    match capture::capture(&program::input()?) {
+        Ok(file) => program::put(&file),
         Err(bad) => {
-            eprintln!("capture: {bad}");
+            program::tell("capture", bad);
             Ok(ExitCode::from(NOT_TAKEN))
         }
     }
-}
-
-fn put(bytes: &[u8]) -> io::Result<ExitCode> {
-    let mut output = io::stdout().lock();
-    output.write_all(bytes)?;
-    output.flush()?;
-    Ok(ExitCode::SUCCESS)
 }

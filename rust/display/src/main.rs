@@ -3,7 +3,7 @@
 use display::{Notation, When};
 use std::env;
 use std::ffi::OsString;
-use std::io::{self, ErrorKind, IsTerminal, Write};
+use std::io::{self, IsTerminal};
 use std::process::ExitCode;
 
 const USAGE: &str = "\
@@ -36,7 +36,6 @@ exit status: 0 all shown, 1 a line was not shown, 2 wrong arguments or a failing
 ";
 
 const NOT_SHOWN: u8 = 1;
-const FAILED: u8 = 2;
 
 enum Request {
     Help,
@@ -44,24 +43,12 @@ enum Request {
 }
 
 fn main() -> ExitCode {
-    let answer = match request(env::args_os().skip(1)) {
-        Some(Request::Help) => print_usage(),
+    let done = match request(env::args_os().skip(1)) {
+        Some(Request::Help) => program::put(USAGE.as_bytes()),
         Some(Request::Show(notation, when)) => show(notation, when),
-        None => {
-            eprint!("{USAGE}");
-            return ExitCode::from(FAILED);
-        }
+        None => return program::called_wrongly(USAGE),
     };
-    match answer {
-        Ok(true) => ExitCode::SUCCESS,
-        Ok(false) => ExitCode::from(NOT_SHOWN),
-        // Whoever reads the output has seen enough of it.
-        Err(error) if error.kind() == ErrorKind::BrokenPipe => ExitCode::SUCCESS,
-        Err(error) => {
-            eprintln!("display: {error}");
-            ExitCode::from(FAILED)
-        }
-    }
+    program::status("display", done)
 }
 
 /// What the arguments ask for; none where one of them is wrong.
@@ -78,15 +65,13 @@ fn request(arguments: impl Iterator<Item = OsString>) -> Option<Request> {
     Some(Request::Show(notation, when))
 }
 
-fn show(notation: Notation, when: When) -> io::Result<bool> {
+fn show(notation: Notation, when: When) -> io::Result<ExitCode> {
     // Standard output passes on each row as it ends, so that a run can be watched.
     let mut output = io::stdout().lock();
     let none_wanted = env::var_os("NO_COLOR").is_some_and(|value| !value.is_empty());
     let coloured = when.coloured(output.is_terminal(), none_wanted);
-    display::run(notation, coloured, &mut io::stdin().lock(), &mut output)
-}
-
-fn print_usage() -> io::Result<bool> {
-    io::stdout().write_all(USAGE.as_bytes())?;
-    Ok(true)
+    match display::run(notation, coloured, &mut io::stdin().lock(), &mut output)? {
+        true => Ok(ExitCode::SUCCESS),
+        false => Ok(ExitCode::from(NOT_SHOWN)),
+    }
 }

@@ -1,22 +1,11 @@
 //! The program: its arguments, exit status and colours.
 
-use std::io::Write;
 use std::process::{Command, Output, Stdio};
 
 fn run(arguments: &[&str], input: &[u8]) -> Output {
-    let mut program = Command::new(env!("CARGO_BIN_EXE_display"))
-        .args(arguments)
-        .env_remove("NO_COLOR")
-        .stdin(Stdio::piped())
-        .stdout(Stdio::piped())
-        .stderr(Stdio::piped())
-        .spawn()
-        .unwrap();
-    let mut stdin = program.stdin.take().unwrap();
-    // A program that was called wrongly does not read it.
-    let _ = stdin.write_all(input);
-    drop(stdin);
-    program.wait_with_output().unwrap()
+    let mut command = Command::new(env!("CARGO_BIN_EXE_display"));
+    command.args(arguments).env_remove("NO_COLOR");
+    program::run(command.stderr(Stdio::piped()), input).unwrap()
 }
 
 /// The text that is shown where nothing is told on standard error.

@@ -1,10 +1,8 @@
 //! Our replay programs: where they are, and what they print.
 
 use std::env;
-use std::io::{self, Write};
 use std::path::{Path, PathBuf};
-use std::process::{Command, Stdio};
-use std::thread;
+use std::process::Command;
 
 const VARIABLE: &str = "OSTELUMIV_BIN";
 const DEFAULT_FOLDER: &str = "../../target/run";
@@ -33,19 +31,8 @@ impl Program {
 
     /// What the program prints to an input.
     pub fn output(&self, input: &[u8]) -> Result<Vec<u8>, String> {
-        let wrong = |error: io::Error| format!("{}: {error}", self.path.display());
-        let mut child = Command::new(&self.path)
-            .stdin(Stdio::piped())
-            .stdout(Stdio::piped())
-            .spawn()
-            .map_err(wrong)?;
-        let mut stdin = child.stdin.take().expect("its input is piped");
-        let output = thread::scope(|scope| {
-            // A program that has read enough may close its input early.
-            scope.spawn(move || stdin.write_all(input).ok());
-            child.wait_with_output()
-        })
-        .map_err(wrong)?;
+        let output = program::run(&mut Command::new(&self.path), input)
+            .map_err(|error| format!("{}: {error}", self.path.display()))?;
         if !output.status.success() {
             return Err(format!("{}: {}", self.path.display(), output.status));
         }

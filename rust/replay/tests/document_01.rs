@@ -2,24 +2,14 @@
 
 #![cfg(has_oracle)]
 
-use std::io::Write;
-use std::process::{Command, Stdio};
+use std::process::Command;
 
 const RECORD: usize = 32;
 
 /// What the program prints to an input.
 fn printed(mode: &str, input: &[u8]) -> String {
-    let mut child = Command::new(env!("CARGO_BIN_EXE_replay_oracle"))
-        .arg(mode)
-        .stdin(Stdio::piped())
-        .stdout(Stdio::piped())
-        .spawn()
-        .unwrap();
-    let mut stdin = child.stdin.take().unwrap();
-    let input = input.to_vec();
-    let writer = std::thread::spawn(move || stdin.write_all(&input).ok());
-    let output = child.wait_with_output().unwrap();
-    writer.join().unwrap();
+    let mut command = Command::new(env!("CARGO_BIN_EXE_replay_oracle"));
+    let output = program::run(command.arg(mode), input).unwrap();
     assert!(output.status.success());
     String::from_utf8(output.stdout).unwrap()
 }

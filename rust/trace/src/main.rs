@@ -1,7 +1,7 @@
 //! The program `trace`: its arguments, its standard streams and its exit status.
 
 use std::env;
-use std::io::{self, ErrorKind, Read, Write};
+use std::io;
 use std::process::ExitCode;
 use trace::{MOST_RECORDS, RECORD};
 
@@ -44,42 +44,31 @@ arguments or a failing stream
 ";
 
 const NOT_TAKEN: u8 = 1;
-const FAILED: u8 = 2;
 
 fn main() -> ExitCode {
     let arguments: Vec<_> = env::args_os().skip(1).collect();
-    let answer = match arguments.as_slice() {
+    let done = match arguments.as_slice() {
         [only] if only == "write" => write(),
         [only] if only == "read" => read(),
-        [only] if only == "--help" => put(USAGE.as_bytes()),
-        _ => {
-            eprint!("{USAGE}");
-            return ExitCode::from(FAILED);
-        }
+        [only] if only == "--help" => program::put(USAGE.as_bytes()),
+        _ => return program::called_wrongly(USAGE),
     };
-    match answer {
-        Ok(status) => status,
-        // Whoever reads the output has seen enough of it.
-        Err(error) if error.kind() == ErrorKind::BrokenPipe => ExitCode::SUCCESS,
-        Err(error) => {
-            eprintln!("trace: {error}");
-            ExitCode::from(FAILED)
-        }
-    }
+    program::status("trace", done)
 }
 
 fn write() -> io::Result<ExitCode> {
-    match trace::write(&input()?) {
+    match trace::write(&program::input()?) {
         Ok(records) => {
             let count = records.len().div_ceil(RECORD);
             if count > MOST_RECORDS {
-                eprintln!("trace: {count} records; the replay reads the first {MOST_RECORDS}");
+                let more = format!("{count} records; the replay reads the first {MOST_RECORDS}");
+                program::tell("trace", more);
             }
-            put(&records)
+            program::put(&records)
         }
         Err(all_bad) => {
             for bad in all_bad {
-                eprintln!("trace: {bad}");
+                program::tell("trace", bad);
             }
             Ok(ExitCode::from(NOT_TAKEN))
         }
@@ -87,18 +76,5 @@ fn write() -> io::Result<ExitCode> {
 }
 
 fn read() -> io::Result<ExitCode> {
-    put(trace::read(&input()?).as_bytes())
-}
-
-fn input() -> io::Result<Vec<u8>> {
-    let mut bytes = Vec::new();
-    io::stdin().lock().read_to_end(&mut bytes)?;
-    Ok(bytes)
-}
-
-fn put(bytes: &[u8]) -> io::Result<ExitCode> {
-    let mut output = io::stdout().lock();
-    output.write_all(bytes)?;
-    output.flush()?;
-    Ok(ExitCode::SUCCESS)
+    program::put(trace::read(&program::input()?).as_bytes())
 }

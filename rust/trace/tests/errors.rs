@@ -1,8 +1,4 @@
-//! Bad lines: where the fault is, what was expected there and what was found; and what the program
-//! does then.
-
-use std::io::Write;
-use std::process::{Command, Output, Stdio};
+//! Bad lines: where the fault is, what was expected there and what was found.
 
 /// All that is told of a text.
 fn told(text: &str) -> Vec<String> {
@@ -10,129 +6,132 @@ fn told(text: &str) -> Vec<String> {
     bad.iter().map(ToString::to_string).collect()
 }
 
+/// Lines, and what is told of each.
+const BAD: &[(&str, &str)] = &[
+    (
+        "wirte 5 2100:01",
+        "column 1: expected an operation: write, read, dcf, reply, tick, ask, gather \
+         (or record, short); found 'wirte'",
+    ),
+    (
+        "write",
+        "column 6: expected a node, 0 to 255; found the end of the line",
+    ),
+    (
+        "  write 256 2100:01",
+        "column 9: expected a node, 0 to 255; found '256'",
+    ),
+    (
+        "read +5 2100:01",
+        "column 6: expected a node, 0 to 255; found '+5'",
+    ),
+    (
+        "read 5 2100:1",
+        "column 8: expected an object such as 2100:01, index and sub-index in hex; \
+         found '2100:1'",
+    ),
+    (
+        "read 5 2100:01 00",
+        "column 16: expected 'at' or the end of the line; found '00'",
+    ),
+    (
+        "write 5 2100:01 0O04",
+        "column 18: expected a hex digit, two a byte; found 'O'",
+    ),
+    (
+        "write 5 2100:01 01 040",
+        "column 23: expected a hex digit, two a byte; found the end of the word",
+    ),
+    (
+        "write 5 2100:01 é",
+        "column 17: expected a hex digit, two a byte; found 'é'",
+    ),
+    (
+        "write 5 2100:01 on 5",
+        "column 17: expected data in hex, 'at' or the end of the line; found 'on'",
+    ),
+    (
+        "tick at",
+        "column 8: expected a time in microseconds below 2^64, such as 15000000, or 15000ms, \
+         or 15s; found the end of the line",
+    ),
+    (
+        "tick at 18446744073709551616",
+        "column 9: expected a time in microseconds below 2^64, such as 15000000, or 15000ms, \
+         or 15s; found '18446744073709551616'",
+    ),
+    (
+        "tick at 5 6",
+        "column 11: expected the end of the line; found '6'",
+    ),
+    (
+        "reply 5 01 01",
+        "column 9: expected 'answers' and a sequence number, or 'seq' and two octets; \
+         found '01'",
+    ),
+    (
+        "reply 5 seq 0101",
+        "column 13: expected an octet, two hex digits; found '0101'",
+    ),
+    (
+        "reply 5 answers 64 number 0",
+        "column 17: expected a sequence number, 0 to 63; found '64'",
+    ),
+    (
+        "reply 5 answers 0 init",
+        "column 19: expected 'number' and the reply's own sequence number; found 'init'",
+    ),
+    (
+        "reply 5 answers 0 number 0 complete init",
+        "column 37: expected states such as 'init', a kind ('expedited', 'initiate', \
+         'segment', 'complete'), 'response', 'abort', data in hex or 'at', in this order and \
+         each if wanted; found 'init'",
+    ),
+    (
+        "reply 5 answers 0 number 0 abort 0504",
+        "column 34: expected an abort code of 8 hex digits, 'data', 'at' or the end of the \
+         line; found '0504'",
+    ),
+    (
+        "dcf 5 cuont 3",
+        "column 7: expected 'count' and entries, data in hex, 'at' or the end of the line; \
+         found 'cuont'",
+    ),
+    (
+        "dcf 5 count 4294967296",
+        "column 13: expected the number of entries, below 2^32; found '4294967296'",
+    ),
+    (
+        "dcf 5 count 1 2100:01",
+        "column 15: expected an entry such as 2100:01=0104, 'at' or the end of the line; \
+         found '2100:01'",
+    ),
+    (
+        "dcf 5 count 1 2100:01=010",
+        "column 26: expected a hex digit, two a byte; found the end of the word",
+    ),
+    (
+        "record 0102 # too few",
+        "column 8: expected 64 hex digits; found 4 digits",
+    ),
+    (
+        "short",
+        "column 6: expected 2 to 62 hex digits; found 0 digits",
+    ),
+    (
+        "short 01 at 5",
+        "column 10: expected the end of the line; found 'at'",
+    ),
+    (
+        "\u{1}abcdefghijklmnopqrstuvwxyz",
+        "column 1: expected an operation: write, read, dcf, reply, tick, ask, gather \
+         (or record, short); found '\\u{1}abcdefghijklmnopqrstuvw...'",
+    ),
+];
+
 #[test]
 fn what_is_told() {
-    for (line, fault) in [
-        (
-            "wirte 5 2100:01",
-            "column 1: expected an operation: write, read, dcf, reply, tick, ask, gather \
-             (or record, short); found 'wirte'",
-        ),
-        (
-            "write",
-            "column 6: expected a node, 0 to 255; found the end of the line",
-        ),
-        (
-            "  write 256 2100:01",
-            "column 9: expected a node, 0 to 255; found '256'",
-        ),
-        (
-            "read +5 2100:01",
-            "column 6: expected a node, 0 to 255; found '+5'",
-        ),
-        (
-            "read 5 2100:1",
-            "column 8: expected an object such as 2100:01, index and sub-index in hex; \
-             found '2100:1'",
-        ),
-        (
-            "read 5 2100:01 00",
-            "column 16: expected 'at' or the end of the line; found '00'",
-        ),
-        (
-            "write 5 2100:01 0O04",
-            "column 18: expected a hex digit, two a byte; found 'O'",
-        ),
-        (
-            "write 5 2100:01 01 040",
-            "column 23: expected a hex digit, two a byte; found the end of the word",
-        ),
-        (
-            "write 5 2100:01 é",
-            "column 17: expected a hex digit, two a byte; found 'é'",
-        ),
-        (
-            "write 5 2100:01 on 5",
-            "column 17: expected data in hex, 'at' or the end of the line; found 'on'",
-        ),
-        (
-            "tick at",
-            "column 8: expected a time in microseconds below 2^64, such as 15000000, or 15000ms, \
-             or 15s; found the end of the line",
-        ),
-        (
-            "tick at 18446744073709551616",
-            "column 9: expected a time in microseconds below 2^64, such as 15000000, or 15000ms, \
-             or 15s; found '18446744073709551616'",
-        ),
-        (
-            "tick at 5 6",
-            "column 11: expected the end of the line; found '6'",
-        ),
-        (
-            "reply 5 01 01",
-            "column 9: expected 'answers' and a sequence number, or 'seq' and two octets; \
-             found '01'",
-        ),
-        (
-            "reply 5 seq 0101",
-            "column 13: expected an octet, two hex digits; found '0101'",
-        ),
-        (
-            "reply 5 answers 64 number 0",
-            "column 17: expected a sequence number, 0 to 63; found '64'",
-        ),
-        (
-            "reply 5 answers 0 init",
-            "column 19: expected 'number' and the reply's own sequence number; found 'init'",
-        ),
-        (
-            "reply 5 answers 0 number 0 complete init",
-            "column 37: expected states such as 'init', a kind ('expedited', 'initiate', \
-             'segment', 'complete'), 'response', 'abort', data in hex or 'at', in this order and \
-             each if wanted; found 'init'",
-        ),
-        (
-            "reply 5 answers 0 number 0 abort 0504",
-            "column 34: expected an abort code of 8 hex digits, 'data', 'at' or the end of the \
-             line; found '0504'",
-        ),
-        (
-            "dcf 5 cuont 3",
-            "column 7: expected 'count' and entries, data in hex, 'at' or the end of the line; \
-             found 'cuont'",
-        ),
-        (
-            "dcf 5 count 4294967296",
-            "column 13: expected the number of entries, below 2^32; found '4294967296'",
-        ),
-        (
-            "dcf 5 count 1 2100:01",
-            "column 15: expected an entry such as 2100:01=0104, 'at' or the end of the line; \
-             found '2100:01'",
-        ),
-        (
-            "dcf 5 count 1 2100:01=010",
-            "column 26: expected a hex digit, two a byte; found the end of the word",
-        ),
-        (
-            "record 0102 # too few",
-            "column 8: expected 64 hex digits; found 4 digits",
-        ),
-        (
-            "short",
-            "column 6: expected 2 to 62 hex digits; found 0 digits",
-        ),
-        (
-            "short 01 at 5",
-            "column 10: expected the end of the line; found 'at'",
-        ),
-        (
-            "\u{1}abcdefghijklmnopqrstuvwxyz",
-            "column 1: expected an operation: write, read, dcf, reply, tick, ask, gather \
-             (or record, short); found '\\u{1}abcdefghijklmnopqrstuvw...'",
-        ),
-    ] {
+    for (line, fault) in BAD {
         assert_eq!(told(line), [format!("line 1, {fault}")]);
     }
 }
@@ -150,65 +149,4 @@ fn nothing_after_a_short_record() {
     let told = told("ask\nshort 01\n\n# a comment\nask");
     let expected = "line 5, column 1: expected nothing after a short record; found 'ask'";
     assert_eq!(told, [expected]);
-}
-
-fn run(arguments: &[&str], input: &[u8]) -> Output {
-    let mut program = Command::new(env!("CARGO_BIN_EXE_trace"))
-        .args(arguments)
-        .stdin(Stdio::piped())
-        .stdout(Stdio::piped())
-        .stderr(Stdio::piped())
-        .spawn()
-        .unwrap();
-    let mut stdin = program.stdin.take().unwrap();
-    // A program that was called wrongly does not read it.
-    let _ = stdin.write_all(input);
-    drop(stdin);
-    program.wait_with_output().unwrap()
-}
-
-#[test]
-fn the_program_writes_nothing_for_a_bad_text() {
-    let output = run(&["write"], b"ask\nask 5\nask\n");
-    assert_eq!(output.status.code(), Some(1));
-    assert!(output.stdout.is_empty());
-    let told = String::from_utf8(output.stderr).unwrap();
-    let expected = "trace: line 2, column 5: expected 'at' or the end of the line; found '5'\n";
-    assert_eq!(told, expected);
-}
-
-#[test]
-fn the_program_both_ways() {
-    let output = run(&["write"], b"tick at 1s\nshort FF");
-    assert_eq!(output.status.code(), Some(0));
-    assert_eq!(output.stdout.len(), 33);
-    assert!(output.stderr.is_empty());
-    let output = run(&["read"], &output.stdout);
-    assert_eq!(output.status.code(), Some(0));
-    assert_eq!(output.stdout, b"tick at 1000000\nshort FF\n");
-}
-
-#[test]
-fn more_records_than_the_replay_reads() {
-    let output = run(&["write"], "ask\n".repeat(65_536).as_bytes());
-    assert_eq!(output.status.code(), Some(0));
-    assert_eq!(output.stdout.len(), 65_536 * 32);
-    let told = String::from_utf8(output.stderr).unwrap();
-    assert_eq!(
-        told,
-        "trace: 65536 records; the replay reads the first 65535\n"
-    );
-}
-
-#[test]
-fn the_programs_arguments() {
-    let help = run(&["--help"], b"");
-    assert_eq!(help.status.code(), Some(0));
-    assert!(help.stdout.starts_with(b"usage: trace write"));
-    for arguments in [&[][..], &["wirte"], &["write", "file"]] {
-        let output = run(arguments, b"");
-        assert_eq!(output.status.code(), Some(2));
-        assert!(output.stdout.is_empty());
-        assert_eq!(output.stderr, help.stdout);
-    }
 }

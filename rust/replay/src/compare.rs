@@ -5,7 +5,7 @@ use crate::generate::Run;
 use crate::line;
 use crate::programs::Program;
 use crate::record::RECORD_BYTES;
-use std::fmt::Write;
+use std::io::{self, Write};
 
 /// After how many traces that differ the comparison is enough.
 const MOST_DIFFERENT: usize = 5;
@@ -32,71 +32,79 @@ impl Side {
         }
     }
 
-    /// Compares the program's lines with the oracle's, and prints the first that differ.
-    fn compare(&mut self, trace: &str, run: &Run) {
+    /// Compares the program's lines with the oracle's, and writes the first that differ.
+    fn compare(&mut self, trace: &str, run: &Run, out: &mut impl Write) -> io::Result<()> {
         let Ok(program) = &self.program else {
-            return;
+            return Ok(());
         };
         if self.different >= MOST_DIFFERENT {
-            return;
+            return Ok(());
         }
         let found = match self.state {
             true => difference(&run.lines, program.output(&run.with_parameters()), 2),
             false => difference(&run.plain_lines(), program.output(&run.records), 1),
         };
         match found {
-            Ok(lines) => self.lines += lines,
+            Ok(lines) => {
+                self.lines += lines;
+                Ok(())
+            }
             Err(difference) => {
                 self.different += 1;
-                let name = program.name;
-                print!("{}", difference.text(name, trace, &run.records));
+                let text = difference.text(program.name, trace, &run.records);
+                out.write_all(text.as_bytes())
             }
         }
     }
 
-    /// Prints what was compared, and answers whether all is well.
-    fn report(&self) -> bool {
+    /// Whether something was compared, and all of it was the same.
+    fn is_well(&self) -> bool {
+        self.lines > 0 && self.different == 0
+    }
+
+    /// What was compared.
+    fn report(&self) -> String {
+        let Self {
+            lines, different, ..
+        } = self;
         match &self.program {
-            Err(missing) => {
-                println!("NOT COMPARED: {missing}");
-                false
+            Err(missing) => format!("NOT COMPARED: {missing}\n"),
+            Ok(Program { name, .. }) if lines + different == 0 => {
+                format!("NOT COMPARED: no trace has a line for {name}\n")
             }
-            Ok(program) => {
-                let enough = if self.different == MOST_DIFFERENT {
+            Ok(Program { name, .. }) => {
+                let enough = if *different == MOST_DIFFERENT {
                     ", and no more were compared"
                 } else {
                     ""
                 };
-                println!(
-                    "{}: {} lines are the same; traces that differ: {}{enough}",
-                    program.name, self.lines, self.different
-                );
-                self.different == 0
+                format!(
+                    "{name}: {lines} lines are the same; traces that differ: {different}{enough}\n"
+                )
             }
         }
     }
 }
 
-/// Compares over so many records, and prints the table of what they reached. It answers whether both
-/// programs were there and nothing differed.
-pub fn run(records: usize, first_seed: u64) -> Result<bool, String> {
+/// Compares over so many records, and writes the table of what they reached. It answers whether both
+/// programs were compared and nothing differed.
+pub fn run(records: usize, first_seed: u64, out: &mut impl Write) -> io::Result<bool> {
     let mut sides = [Side::new("replay_states", true), Side::new("replay", false)];
-    let (mut traces, mut seen) = (0, 0);
-    let counts = cover::each_trace(records, first_seed, |trace, run| {
-        traces += 1;
-        seen += run.records.len() / RECORD_BYTES;
+    let covered = cover::each_trace(records, first_seed, |trace, run| {
         let absent = run.parameters.timeout.is_none() && run.parameters.retries.is_none();
         for side in &mut sides {
             // The replay takes no parameters.
             if side.state || absent {
-                side.compare(trace, run);
+                side.compare(trace, run, out)?;
             }
         }
+        Ok(())
     })?;
-    print!("{}", counts.text());
-    println!("{traces} traces, {seen} records");
-    let well = sides.iter().filter(|side| side.report()).count();
-    Ok(well == sides.len())
+    out.write_all(covered.text().as_bytes())?;
+    for side in &sides {
+        out.write_all(side.report().as_bytes())?;
+    }
+    Ok(sides.iter().all(Side::is_well))
 }
 
 /// Where a program and the oracle part.
@@ -161,24 +169,20 @@ fn shown(line: &[u8], place: usize) -> String {
 
 impl Difference {
     fn text(&self, program: &str, trace: &str, records: &[u8]) -> String {
-        let mut text = String::new();
-        let put = match self {
-            Self::Failed(error) => writeln!(text, "DIFFERENCE in {program}, {trace}: {error}"),
+        match self {
+            Self::Failed(error) => format!("DIFFERENCE in {program}, {trace}: {error}\n"),
             Self::Lines { record, ours, rust } => {
                 let begin = (record - 1) * RECORD_BYTES;
                 let end = records.len().min(begin + RECORD_BYTES);
                 let mut hex = Vec::new();
                 line::put_hex(&mut hex, records.get(begin..end).unwrap_or_default());
                 let bytes = String::from_utf8_lossy(&hex);
-                writeln!(
-                    text,
+                format!(
                     "DIFFERENCE in {program}, {trace}, record {record}\n  \
-                     bytes {bytes}\n  ours  {ours}\n  Rust  {rust}"
+                     bytes {bytes}\n  ours  {ours}\n  Rust  {rust}\n"
                 )
             }
-        };
-        put.expect("a string takes any text");
-        text
+        }
     }
 }
 

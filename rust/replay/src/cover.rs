@@ -4,21 +4,39 @@
 use crate::counts::Counts;
 use crate::generate::{self, Run};
 use crate::record::{MOST_RECORDS, RECORD_BYTES};
+use std::io;
+
+/// What traces reached together, and how much there was of them.
+#[derive(Default)]
+pub struct Covered {
+    pub counts: Counts,
+    traces: usize,
+    records: usize,
+}
+
+impl Covered {
+    pub fn text(&self) -> String {
+        let (table, traces, records) = (self.counts.text(), self.traces, self.records);
+        format!("{table}{traces} traces, {records} records\n")
+    }
+}
 
 /// Makes traces from the first seed on until they have so many records, and hands each over with its
-/// name; the last is the longest one, if it is not more than was asked for. It answers what they
-/// reached.
+/// name; the last is the longest one, if it is not more than was asked for.
 pub fn each_trace(
     records: usize,
     first_seed: u64,
-    mut take: impl FnMut(&str, &Run),
-) -> Result<Counts, String> {
-    let mut counts = Counts::default();
+    mut take: impl FnMut(&str, &Run) -> io::Result<()>,
+) -> io::Result<Covered> {
+    let mut covered = Covered::default();
     let mut hand_over = |name: &str, run: Result<Run, String>| {
-        let run = run.map_err(|error| format!("{name}: {error}"))?;
-        counts.add(&run.counts);
-        take(name, &run);
-        Ok::<usize, String>(run.records.len() / RECORD_BYTES)
+        let run = run.map_err(|error| io::Error::other(format!("{name}: {error}")))?;
+        let made = run.records.len() / RECORD_BYTES;
+        covered.counts.add(&run.counts);
+        covered.traces += 1;
+        covered.records += made;
+        take(name, &run)?;
+        Ok::<usize, io::Error>(made)
     };
     let longest = MOST_RECORDS as usize;
     let mut left = records;
@@ -35,16 +53,5 @@ pub fn each_trace(
     if records >= longest {
         hand_over("the longest trace", generate::longest())?;
     }
-    Ok(counts)
-}
-
-/// The table of the rules over so many records.
-pub fn table(records: usize, first_seed: u64) -> Result<String, String> {
-    let (mut traces, mut seen) = (0, 0);
-    let counts = each_trace(records, first_seed, |_, run| {
-        traces += 1;
-        seen += run.records.len() / RECORD_BYTES;
-    })?;
-    let table = counts.text();
-    Ok(format!("{table}{traces} traces, {seen} records\n"))
+    Ok(covered)
 }

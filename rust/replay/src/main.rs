@@ -1,6 +1,7 @@
 //! The repository's manager as a replay, and our replay programs against it. USAGE has the modes.
 
 use std::env;
+use std::io::{self, ErrorKind};
 use std::process::ExitCode;
 
 const USAGE: &str = "\
@@ -14,16 +15,20 @@ usage: replay_oracle MODE
   trace SEED | longest    the drawn trace of a seed, or the one of 65,535 records and more, with
                           the parameters ahead
   fixed CRATES            writes the sample of traces and lines that runs without Rust
-  drawn CRATES            writes the long trace and its lines that the gate runs";
+  drawn CRATES            writes the long trace and its lines that the gate runs
+exit status: 0 all is well, 1 it is not";
 
 fn main() -> ExitCode {
-    let arguments: Vec<String> = env::args().skip(1).collect();
-    let arguments: Vec<&str> = arguments.iter().map(String::as_str).collect();
-    match run(&arguments) {
+    let arguments: Vec<_> = env::args_os().skip(1).collect();
+    let words: Option<Vec<&str>> = arguments.iter().map(|word| word.to_str()).collect();
+    match run(&words.unwrap_or_default()) {
         Ok(true) => ExitCode::SUCCESS,
         Ok(false) => ExitCode::FAILURE,
-        Err(message) => {
-            eprintln!("{message}");
+        Err(error) => {
+            // Whoever reads the output has seen enough of it; but what was cut is not well.
+            if error.kind() != ErrorKind::BrokenPipe {
+                program::tell("replay_oracle", error);
+            }
             ExitCode::FAILURE
         }
     }
@@ -31,45 +36,53 @@ fn main() -> ExitCode {
 
 /// Answers whether all is well.
 #[cfg(has_oracle)]
-fn run(arguments: &[&str]) -> Result<bool, String> {
+fn run(arguments: &[&str]) -> io::Result<bool> {
     use replay_oracle::{compare, cover, fixed, generate, stream};
-    use std::io::{self, Write};
+    use std::io::Write;
     use std::path::Path;
 
-    let output = || io::stdout().lock();
-    let done = match arguments {
-        ["plain"] => stream::plain(io::stdin().lock(), output()),
-        ["state"] => stream::with_state(io::stdin().lock(), output()),
-        ["cover", records] => write!(output(), "{}", cover::table(number(records)?, 0)?),
-        ["cover", records, seed] => {
-            let table = cover::table(number(records)?, number(seed)?)?;
-            write!(output(), "{table}")
+    let mut output = io::stdout().lock();
+    match arguments {
+        [mode @ ("cover" | "compare"), records] => return run(&[mode, records, "0"]),
+        ["compare", records, seed] => {
+            return compare::run(number(records)?, number(seed)?, &mut output)
         }
-        ["compare", records] => return compare::run(number(records)?, 0),
-        ["compare", records, seed] => return compare::run(number(records)?, number(seed)?),
+        ["cover", records, seed] => {
+            let covered = cover::each_trace(number(records)?, number(seed)?, |_, _| Ok(()))?;
+            output.write_all(covered.text().as_bytes())?;
+        }
+        ["plain"] => stream::plain(io::stdin().lock(), &mut output)?,
+        ["state"] => stream::with_state(io::stdin().lock(), &mut output)?,
         ["trace", which] => {
             let run = match *which {
-                "longest" => generate::longest()?,
-                seed => generate::drawn(number(seed)?)?,
+                "longest" => generate::longest(),
+                seed => generate::drawn(number(seed)?),
             };
-            output().write_all(&run.with_parameters())
+            output.write_all(&run.map_err(io::Error::other)?.with_parameters())?;
         }
-        ["fixed", crates] => write!(output(), "{}", fixed::write(Path::new(crates))?),
-        ["drawn", crates] => write!(output(), "{}", fixed::write_drawn(Path::new(crates))?),
-        _ => return Err(USAGE.into()),
-    };
-    done.map(|()| true).map_err(|error| error.to_string())
+        ["fixed", crates] => {
+            let table = fixed::write(Path::new(crates)).map_err(io::Error::other)?;
+            output.write_all(table.as_bytes())?;
+        }
+        ["drawn", crates] => {
+            let told = fixed::write_drawn(Path::new(crates)).map_err(io::Error::other)?;
+            output.write_all(told.as_bytes())?;
+        }
+        _ => return Err(io::Error::other(USAGE)),
+    }
+    output.flush()?;
+    Ok(true)
 }
 
 #[cfg(has_oracle)]
-fn number<T: std::str::FromStr>(text: &str) -> Result<T, String> {
+fn number<T: std::str::FromStr>(text: &str) -> io::Result<T> {
     text.parse()
-        .map_err(|_| format!("{text} is no number\n{USAGE}"))
+        .map_err(|_| io::Error::other(format!("{text} is no number\n{USAGE}")))
 }
 
 #[cfg(not(has_oracle))]
-fn run(_: &[&str]) -> Result<bool, String> {
-    Err(format!(
+fn run(_: &[&str]) -> io::Result<bool> {
+    Err(io::Error::other(format!(
         "not run: the repository's client was not found; OSTELUMIV_ORACLE names its folder\n{USAGE}"
-    ))
+    )))
 }

@@ -46,7 +46,13 @@ pub fn plain(input: impl Read, output: impl Write) -> io::Result<()> {
 /// Two lines a record. The input begins with the parameters.
 pub fn with_state(mut input: impl Read, output: impl Write) -> io::Result<()> {
     let mut head = [0; PARAMETER_BYTES];
-    input.read_exact(&mut head)?;
+    let read = input.read_exact(&mut head);
+    read.map_err(|error| {
+        io::Error::new(
+            error.kind(),
+            format!("the ten bytes of parameters: {error}"),
+        )
+    })?;
     let mut watched = Watched::new(parameters::read(&head));
     run(input, output, |_, next, lines| match next {
         Next::Short => {

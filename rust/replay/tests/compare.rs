@@ -1,5 +1,5 @@
 //! The comparison itself, with the oracle in the place of our programs: it passes, and a program that
-//! is wrong, missing or broken fails it.
+//! is wrong, missing or broken fails it; so does a run that compares nothing.
 
 #![cfg(all(has_oracle, unix))]
 
@@ -22,25 +22,31 @@ fn folder(name: &str, scripts: &[(&str, &str)]) -> PathBuf {
     folder
 }
 
+/// A folder with the oracle under the names of our programs.
+fn oracles(name: &str) -> PathBuf {
+    let state = format!("exec {ORACLE} state");
+    let plain = format!("exec {ORACLE} plain");
+    folder(name, &[("replay_states", &state), ("replay", &plain)])
+}
+
+/// The comparison over so many records.
+fn compare(folder: &Path, records: &str) -> Command {
+    let mut command = Command::new(ORACLE);
+    command.args(["compare", records]);
+    command.env("OSTELUMIV_BIN", folder);
+    command
+}
+
 /// Whether the comparison passes, and what it prints.
 fn compared(folder: &Path) -> (bool, String) {
-    let output = Command::new(ORACLE)
-        .args(["compare", "20000"])
-        .env("OSTELUMIV_BIN", folder)
-        .output()
-        .unwrap();
+    let output = compare(folder, "20000").output().unwrap();
     let text = String::from_utf8(output.stdout).unwrap();
     (output.status.success(), text)
 }
 
 #[test]
 fn the_oracle_is_like_itself() {
-    let state = format!("exec {ORACLE} state");
-    let plain = format!("exec {ORACLE} plain");
-    let (passed, text) = compared(&folder(
-        "same",
-        &[("replay_states", &state), ("replay", &plain)],
-    ));
+    let (passed, text) = compared(&oracles("same"));
     assert!(passed, "{text}");
     assert!(!text.contains("DIFFERENCE"), "{text}");
     assert!(text.contains("traces that differ: 0"), "{text}");
@@ -83,4 +89,15 @@ fn a_missing_program() {
     assert!(!passed);
     assert!(text.contains("NOT COMPARED: replay is not in "), "{text}");
     assert!(!text.contains("NOT COMPARED: replay_states"), "{text}");
+}
+
+#[test]
+fn nothing_to_compare() {
+    let output = compare(&oracles("nothing"), "0").output().unwrap();
+    assert_eq!(output.status.code(), Some(1));
+    let text = String::from_utf8(output.stdout).unwrap();
+    for name in ["replay_states", "replay"] {
+        let told = format!("NOT COMPARED: no trace has a line for {name}\n");
+        assert!(text.contains(&told), "{text}");
+    }
 }

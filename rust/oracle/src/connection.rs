@@ -1,4 +1,5 @@
-//! One node's connection, whose type is private in the repository: each function hands its call on.
+//! One node's connection, whose type is private in the repository: the calls that the comparisons make, each
+//! handed on.
 
 use crate::sdo::client_connection::SdoClientConnection;
 use crate::{NodeId, ObjectDictionary, PowerlinkError, SdoCommand, SequenceLayerHeader};
@@ -6,7 +7,7 @@ use crate::{NodeId, ObjectDictionary, PowerlinkError, SdoCommand, SequenceLayerH
 /// What a connection sends.
 pub type Sent = (SequenceLayerHeader, SdoCommand);
 
-#[derive(Debug, Clone)]
+#[derive(Debug)]
 pub struct Connection(SdoClientConnection);
 
 impl Connection {
@@ -14,16 +15,8 @@ impl Connection {
         Self(SdoClientConnection::new(node))
     }
 
-    pub fn is_idle(&self) -> bool {
-        self.0.is_idle()
-    }
-
     pub fn is_closed(&self) -> bool {
         self.0.is_closed()
-    }
-
-    pub fn deadline_us(&self) -> Option<u64> {
-        self.0.deadline_us
     }
 
     pub fn start_concise_dcf_job(
@@ -45,19 +38,6 @@ impl Connection {
         od: &ObjectDictionary,
     ) -> Result<(), PowerlinkError> {
         self.0.start_read_job(index, sub_index, tid, time, od)
-    }
-
-    pub fn start_write_job(
-        &mut self,
-        index: u16,
-        sub_index: u8,
-        data: Vec<u8>,
-        tid: u8,
-        time: u64,
-        od: &ObjectDictionary,
-    ) -> Result<(), PowerlinkError> {
-        self.0
-            .start_write_job(index, sub_index, data, tid, time, od)
     }
 
     pub fn get_pending_request(&mut self, time: u64, od: &ObjectDictionary) -> Option<Sent> {

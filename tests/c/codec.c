@@ -148,7 +148,7 @@ static void command_read(void)
 
 static void command_read_edges(void)
 {
-    /* The low flag bits and the reserved bytes are set, and the segment runs past the end. */
+    /* The low flag bits and the reserved bytes are set, and the segment is as long as one can be. */
     const uint8_t head[8] = {0xFF, 7, 0xCF, 0x70, 0xFF, 0xFF, 0xFF, 0xFF};
     const struct ostelumiv_command longest = {
         .transaction_id = 7, .segmentation = OSTELUMIV_COMPLETE, .command_id = 0x70, .segment_size = 65535,

@@ -8,6 +8,7 @@
 use crate::dcf::{self, SENT_HEAD};
 use crate::debug_text;
 use crate::ledger::{Ledger, Work};
+use crate::parameters;
 use crate::refusal::Refusal;
 use crate::table::Table;
 use oracle::{
@@ -22,7 +23,6 @@ pub const MOST_BYTES: usize = 4_096;
 
 /// The bytes of an abort code.
 const CODE_BYTES: usize = 4;
-const DEFAULT_TIMEOUT: u32 = 15_000;
 
 /// What a start asks for.
 #[derive(Debug, Clone, PartialEq)]
@@ -187,8 +187,8 @@ impl Client {
 
     /// Whether a deadline that is set at this time has 64 bits.
     fn fits(&self, time: u64) -> bool {
-        let timeout = self.parameters.timeout.unwrap_or(DEFAULT_TIMEOUT);
-        time.checked_add(u64::from(timeout) * 1_000).is_some()
+        let timeout = parameters::timeout(&self.parameters);
+        time.checked_add(timeout).is_some()
     }
 
     pub fn next_action_time(&self) -> Option<u64> {

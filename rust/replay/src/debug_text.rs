@@ -155,49 +155,37 @@ impl<'a> Text<'a> {
         Ok(node)
     }
 
+    /// A value behind the text that announces it.
+    fn after<T>(
+        &mut self,
+        announced: &str,
+        value: impl FnOnce(&mut Self) -> Parsed<T>,
+    ) -> Parsed<T> {
+        self.eat(announced)?;
+        value(self)
+    }
+
+    /// Rust takes the fields in the order in which they are written, and this is that of the text.
     fn connection(&mut self) -> Parsed<Held> {
-        self.eat("SdoClientConnection { target_node_id: ")?;
-        let node = self.node()?;
-        self.eat(", state: ")?;
-        let state = self.state()?;
-        self.eat(", transaction_id: ")?;
-        let transaction = self.number()?;
-        self.eat(", send_sequence_number: ")?;
-        let send = self.number()?;
-        self.eat(", last_received_sequence_number: ")?;
-        let last = self.number()?;
-        self.eat(", data_buffer: ")?;
-        let buffer = self.bytes()?;
-        self.eat(", offset: ")?;
-        let offset = self.number()?;
-        self.eat(", total_size: ")?;
-        let total = self.number()?;
-        self.eat(", deadline_us: ")?;
-        let deadline = self.option(Self::number)?;
-        self.eat(", retries_left: ")?;
-        let retries = self.number()?;
-        self.eat(", last_sent_command: ")?;
-        let outstanding = self.option(Self::sent)?;
-        self.eat(", current_job: ")?;
-        let dcf = self.option(Self::dcf)?;
-        self.eat(", pending_command: ")?;
-        let read_waits = self.option(Self::command)?.is_some();
+        let held = Held {
+            node: self.after("SdoClientConnection { target_node_id: ", Self::node)?,
+            state: self.after(", state: ", Self::state)?,
+            transaction: self.after(", transaction_id: ", Self::number)?,
+            send: self.after(", send_sequence_number: ", Self::number)?,
+            last: self.after(", last_received_sequence_number: ", Self::number)?,
+            buffer: self.after(", data_buffer: ", Self::bytes)?,
+            offset: self.after(", offset: ", Self::number)?,
+            total: self.after(", total_size: ", Self::number)?,
+            deadline: self.after(", deadline_us: ", |text| text.option(Self::number))?,
+            retries: self.after(", retries_left: ", Self::number)?,
+            outstanding: self.after(", last_sent_command: ", |text| text.option(Self::sent))?,
+            dcf: self.after(", current_job: ", |text| text.option(Self::dcf))?,
+            read_waits: self
+                .after(", pending_command: ", |text| text.option(Self::command))?
+                .is_some(),
+        };
         self.eat(" }")?;
-        Ok(Held {
-            node,
-            state,
-            transaction,
-            send,
-            last,
-            buffer,
-            offset,
-            total,
-            deadline,
-            retries,
-            outstanding,
-            dcf,
-            read_waits,
-        })
+        Ok(held)
     }
 
     fn state(&mut self) -> Parsed<State> {
@@ -242,18 +230,13 @@ impl<'a> Text<'a> {
     }
 
     fn dcf(&mut self) -> Parsed<DcfLeft> {
-        self.eat("ConciseDcf { data: ")?;
-        let length = self.bytes()?.length;
-        self.eat(", offset: ")?;
-        let offset = self.number()?;
-        self.eat(", entries_remaining: ")?;
-        let entries = self.number()?;
+        let left = DcfLeft {
+            length: self.after("ConciseDcf { data: ", Self::bytes)?.length,
+            offset: self.after(", offset: ", Self::number)?,
+            entries: self.after(", entries_remaining: ", Self::number)?,
+        };
         self.eat(" }")?;
-        Ok(DcfLeft {
-            length,
-            offset,
-            entries,
-        })
+        Ok(left)
     }
 }
 

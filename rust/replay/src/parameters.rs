@@ -1,9 +1,12 @@
-//! The ten bytes ahead of a trace with parameters: timeout and retries, each a byte that says whether
-//! it is present, and its number, low byte first.
+//! Timeout and retries: the ten bytes ahead of a trace that has them (for each a byte that says whether it
+//! is present, and its number, low byte first), and the timeout where it is absent.
 
 use oracle::ObjectDictionary;
 
 pub const PARAMETER_BYTES: usize = 10;
+
+/// In milliseconds.
+const DEFAULT_TIMEOUT: u32 = 15_000;
 
 pub fn read(bytes: &[u8; PARAMETER_BYTES]) -> ObjectDictionary {
     let [timeout_present, a, b, c, d, retries_present, e, f, g, h] = *bytes;
@@ -26,9 +29,15 @@ pub fn bytes(parameters: &ObjectDictionary) -> [u8; PARAMETER_BYTES] {
     bytes
 }
 
+/// The microseconds from a time to the deadline that is set then.
+pub fn timeout(parameters: &ObjectDictionary) -> u64 {
+    u64::from(parameters.timeout.unwrap_or(DEFAULT_TIMEOUT)) * 1_000
+}
+
 #[cfg(test)]
 mod tests {
-    use super::{bytes, read};
+    use super::{bytes, read, timeout};
+    use oracle::ObjectDictionary;
 
     #[test]
     fn present_and_absent() {
@@ -37,5 +46,7 @@ mod tests {
         assert_eq!(parameters.timeout, Some(10_000));
         assert_eq!(parameters.retries, None);
         assert_eq!(bytes(&parameters), [1, 0x10, 0x27, 0, 0, 0, 0, 0, 0, 0]);
+        assert_eq!(timeout(&parameters), 10_000_000);
+        assert_eq!(timeout(&ObjectDictionary::default()), 15_000_000);
     }
 }

@@ -6,6 +6,10 @@ pub const MOST_RECORDS: u32 = 65_535;
 /// The most data bytes that a record holds.
 pub const MOST_DATA: usize = 16;
 
+/// The marks in the flags of a reply.
+pub const RESPONSE: u8 = 0x10;
+pub const ABORT: u8 = 0x20;
+
 const DATA: usize = 16;
 
 /// A record as it stands in the trace.

@@ -96,8 +96,8 @@ impl Writer {
 
     /// The record of an operation, and ahead of it those that gather what it has no place for.
     fn put(&mut self, operation: Operation, data: &[u8]) {
-        let own = data.len().saturating_sub(1) / MOST_DATA * MOST_DATA;
-        let (gathered, own) = data.split_at(own);
+        let whole = data.len().saturating_sub(1) / MOST_DATA * MOST_DATA;
+        let (gathered, own) = data.split_at(whole);
         for part in gathered.chunks(MOST_DATA) {
             self.put_one(Operation::Gather, part);
         }

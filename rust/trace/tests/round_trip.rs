@@ -1,60 +1,44 @@
 //! write(read(x)) = x: for records of every kind, for those that are nearly right, for any bytes.
 
-/// A xorshift generator, so that every run has the same inputs.
-struct Rng(u64);
+use rng::Rng;
 
-impl Rng {
-    fn byte(&mut self) -> u8 {
-        self.0 ^= self.0 >> 12;
-        self.0 ^= self.0 << 25;
-        self.0 ^= self.0 >> 27;
-        (self.0.wrapping_mul(0x2545_F491_4F6C_DD1D) >> 56) as u8
-    }
+fn fill(rng: &mut Rng, bytes: &mut [u8]) {
+    bytes.iter_mut().for_each(|byte| *byte = rng.byte());
+}
 
-    /// Once in so many times.
-    fn once_in(&mut self, times: u8) -> bool {
-        self.byte().is_multiple_of(times)
+/// A record that the notation has words for, but for a stray byte now and then.
+fn record(rng: &mut Rng) -> [u8; 32] {
+    let mut record = [0; 32];
+    let operation = 1 + rng.byte() % 7;
+    record[0] = operation;
+    if operation <= 4 {
+        record[1] = rng.byte();
     }
-
-    fn fill(&mut self, bytes: &mut [u8]) {
-        bytes.iter_mut().for_each(|byte| *byte = self.byte());
+    if matches!(operation, 1 | 2 | 4) {
+        fill(rng, &mut record[2..4]);
     }
-
-    /// A record that the notation has words for, but for a stray byte now and then.
-    fn record(&mut self) -> [u8; 32] {
-        let mut record = [0; 32];
-        let operation = 1 + self.byte() % 7;
-        record[0] = operation;
-        if operation <= 4 {
-            record[1] = self.byte();
-        }
-        if matches!(operation, 1 | 2 | 4) {
-            self.fill(&mut record[2..4]);
-        }
-        if matches!(operation, 1 | 2) {
-            record[4] = self.byte();
-        }
-        if operation == 4 {
-            let mask = if self.once_in(4) { 0xFF } else { 0xF0 };
-            record[14] = self.byte() & mask;
-        }
-        if matches!(operation, 1 | 3 | 4 | 7) {
-            record[5] = self.byte() % 17;
-            let end = 16 + usize::from(record[5]);
-            self.fill(&mut record[16..end]);
-        }
-        if self.once_in(3) {
-            record[6] = self.byte() % 3;
-        }
-        if self.once_in(16) {
-            self.fill(&mut record[6..14]);
-        }
-        if self.once_in(8) {
-            let place = usize::from(self.byte() % 32);
-            record[place] = self.byte();
-        }
-        record
+    if matches!(operation, 1 | 2) {
+        record[4] = rng.byte();
     }
+    if operation == 4 {
+        let mask = if rng.one_in(4) { 0xFF } else { 0xF0 };
+        record[14] = rng.byte() & mask;
+    }
+    if matches!(operation, 1 | 3 | 4 | 7) {
+        record[5] = rng.byte() % 17;
+        let end = 16 + usize::from(record[5]);
+        fill(rng, &mut record[16..end]);
+    }
+    if rng.one_in(3) {
+        record[6] = rng.byte() % 3;
+    }
+    if rng.one_in(16) {
+        fill(rng, &mut record[6..14]);
+    }
+    if rng.one_in(8) {
+        record[rng.below(32)] = rng.byte();
+    }
+    record
 }
 
 /// The lines of a trace, after seeing that they give it back.
@@ -71,10 +55,10 @@ fn lines(trace: &[u8]) -> String {
 
 #[test]
 fn records_of_every_kind() {
-    let mut rng = Rng(1);
+    let mut rng = Rng::new(1);
     let mut shown = String::new();
     for _ in 0..500 {
-        let trace: Vec<u8> = (0..40).flat_map(|_| rng.record()).collect();
+        let trace: Vec<u8> = (0..40).flat_map(|_| record(&mut rng)).collect();
         shown += &lines(&trace);
     }
     for word in [
@@ -140,10 +124,9 @@ fn each_sequence_octet_and_flags() {
 
 #[test]
 fn any_bytes_and_every_short_end() {
-    let mut rng = Rng(2);
+    let mut rng = Rng::new(2);
     for len in 0..200 {
-        let mut trace = vec![0; len];
-        rng.fill(&mut trace);
+        let trace = rng.bytes(len);
         let lines = lines(&trace);
         assert_eq!(lines.contains("short "), len % 32 != 0);
     }

@@ -30,9 +30,9 @@ fn manager() -> SdoClientManager {
     manager
 }
 
-#[test]
-fn every_field() {
-    let opening = Held {
+/// What the manager shows of the DCF.
+fn opening() -> Held {
+    Held {
         node: 9,
         state: State::Opening,
         transaction: 2,
@@ -50,7 +50,11 @@ fn every_field() {
             entries: 1,
         }),
         read_waits: false,
-    };
+    }
+}
+
+#[test]
+fn every_field() {
     let read = Held {
         node: 10,
         transaction: 2,
@@ -61,7 +65,7 @@ fn every_field() {
         outstanding: None,
         dcf: None,
         read_waits: true,
-        ..opening.clone()
+        ..opening()
     };
     let idle = Held {
         node: 255,
@@ -73,7 +77,7 @@ fn every_field() {
         ..read.clone()
     };
     let expected = Table {
-        held: vec![opening, read, idle],
+        held: vec![opening(), read, idle],
         transaction: 3,
     };
     assert_eq!(table(&format!("{:?}", manager())), Ok(expected));

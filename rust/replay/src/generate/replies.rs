@@ -1,14 +1,22 @@
 //! Drawn replies: right for the state that the oracle is in, or wrong on purpose.
 
 use super::draw;
-use super::stage::{
-    Reply, Stage, ABORT, COMPLETE, EXPEDITED, INITIALIZATION, INITIATE, RESPONSE, SEGMENT, VALID,
-};
+use super::stage::{Reply, Stage, COMPLETE, EXPEDITED, INITIALIZATION, INITIATE, SEGMENT, VALID};
 use super::steps::Theme;
+use crate::record::{ABORT, RESPONSE};
 use crate::table::{Held, State};
 
 /// How many connections that no call can move a trace may come to hold.
 const MOST_STUCK: usize = 2;
+
+/// Receive and send states, of which no pair opens.
+const NOT_OPENING: [(u8, u8); 5] = [
+    (VALID, INITIALIZATION),
+    (INITIALIZATION, VALID),
+    (VALID, VALID),
+    (0, 0),
+    (3, 3),
+];
 
 /// A held connection, drawn among those that the condition holds of.
 fn some_held(stage: &mut Stage, condition: impl Fn(&Held) -> bool) -> Option<Held> {
@@ -25,24 +33,7 @@ pub fn right(stage: &mut Stage, theme: Theme) {
     let Some(held) = some_held(stage, |held| held.outstanding.is_some()) else {
         return stage.ask();
     };
-    let (segmentation, length) = match held.state {
-        State::UploadInit => {
-            let expedited = stage.rng.one_in(replies_of(theme));
-            let length = draw::upload_length(&mut stage.rng, 0);
-            if expedited {
-                (EXPEDITED, length)
-            } else {
-                (INITIATE, length.min(20))
-            }
-        }
-        State::UploadInProgress => {
-            let length = draw::upload_length(&mut stage.rng, held.buffer.length);
-            let complete = stage.rng.one_in(replies_of(theme));
-            (if complete { COMPLETE } else { SEGMENT }, length)
-        }
-        // Nothing of the command is looked at.
-        _ => (stage.rng.byte() & COMPLETE, 0),
-    };
+    let (segmentation, length) = right_command(stage, theme, &held);
     let low = if stage.rng.one_in(4) {
         stage.rng.byte() & 0x1F
     } else {
@@ -63,6 +54,28 @@ pub fn right(stage: &mut Stage, theme: Theme) {
             reply.send_state = send;
         }
     });
+}
+
+/// The segmentation of a reply that moves its connection on, and how long its payload is.
+fn right_command(stage: &mut Stage, theme: Theme, held: &Held) -> (u8, usize) {
+    match held.state {
+        State::UploadInit => {
+            let expedited = stage.rng.one_in(replies_of(theme));
+            let length = draw::upload_length(&mut stage.rng, 0);
+            if expedited {
+                (EXPEDITED, length)
+            } else {
+                (INITIATE, length.min(20))
+            }
+        }
+        State::UploadInProgress => {
+            let length = draw::upload_length(&mut stage.rng, held.buffer.length);
+            let complete = stage.rng.one_in(replies_of(theme));
+            (if complete { COMPLETE } else { SEGMENT }, length)
+        }
+        // Nothing of the command is looked at.
+        _ => (stage.rng.byte() & COMPLETE, 0),
+    }
 }
 
 /// How many replies an upload has, on the whole.
@@ -92,18 +105,9 @@ pub fn wrong(stage: &mut Stage, nodes: &[u8]) {
     };
     let number = stage.rng.byte() & 63;
     let mark = if stage.rng.one_in(3) { ABORT } else { 0 };
-    let states = stage.rng.pick(&[
-        (VALID, INITIALIZATION),
-        (INITIALIZATION, VALID),
-        (VALID, VALID),
-        (0, 0),
-        (3, 3),
-    ]);
+    let states = stage.rng.pick(&NOT_OPENING);
     let segmentation = stage.rng.pick(&[EXPEDITED, INITIATE, SEGMENT, COMPLETE]);
-    // A duplicate in UploadInit leaves a connection that no call can move: of these, two at most.
-    let stuck = |held: &&Held| held.state == State::UploadInit && held.outstanding.is_none();
-    let few = stage.table().held.iter().filter(stuck).count() < MOST_STUCK;
-    let duplicate = held.state != State::UploadInit || few;
+    let duplicate = may_be_duplicate(stage, &held);
     stage.answer(held.node, |reply| {
         reply.payload = payload;
         match kind {
@@ -121,6 +125,13 @@ pub fn wrong(stage: &mut Stage, nodes: &[u8]) {
             _ => reply.flags |= segmentation,
         }
     });
+}
+
+/// A duplicate number in UploadInit leaves a connection that no call can move; there are few of these.
+fn may_be_duplicate(stage: &Stage, held: &Held) -> bool {
+    let stuck = |held: &&Held| held.state == State::UploadInit && held.outstanding.is_none();
+    let few = stage.table().held.iter().filter(stuck).count() < MOST_STUCK;
+    held.state != State::UploadInit || few
 }
 
 fn any_reply(stage: &mut Stage, node: u8, payload: Vec<u8>) -> Reply {

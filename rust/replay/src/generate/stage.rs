@@ -4,7 +4,8 @@
 use super::Run;
 use crate::client::MOST_BYTES;
 use crate::observe::Observer;
-use crate::record::{Operation, Record, RecordBytes, MOST_DATA, MOST_RECORDS};
+use crate::parameters;
+use crate::record::{Operation, Record, RecordBytes, MOST_DATA, MOST_RECORDS, RESPONSE};
 use crate::rules::Rule;
 use crate::table::{Held, State, Table};
 use crate::watched::Watched;
@@ -15,10 +16,7 @@ use rng::Rng;
 pub const INITIALIZATION: u8 = 1;
 pub const VALID: u8 = 2;
 
-/// Flags of a reply.
-pub const RESPONSE: u8 = 0x10;
-pub const ABORT: u8 = 0x20;
-/// Segmentation, as it stands in the flags.
+/// Segmentation, as it stands in the flags of a reply.
 pub const EXPEDITED: u8 = 0;
 pub const INITIATE: u8 = 0x40;
 pub const SEGMENT: u8 = 0x80;
@@ -81,7 +79,7 @@ impl Stage {
 
     /// The microseconds from a time to the deadline that is set then.
     pub fn timeout(&self) -> u64 {
-        u64::from(self.parameters.timeout.unwrap_or(15_000)) * 1_000
+        parameters::timeout(&self.parameters)
     }
 
     /// A record as it is. Past the last that is read, bytes only stand in the trace.

@@ -8,6 +8,7 @@ mod walk;
 use crate::client::{Answer, Call, MOST_BYTES, MOST_HELD};
 use crate::counts::Counts;
 use crate::gather::Turn;
+use crate::parameters;
 use crate::record::{Operation, Record, RecordBytes, MOST_DATA};
 use crate::refusal::Refusal;
 use crate::rules::Rule;
@@ -48,7 +49,7 @@ impl Observer {
         });
         Self {
             counts,
-            timeout: u64::from(parameters.timeout.unwrap_or(15_000)) * 1_000,
+            timeout: parameters::timeout(parameters),
             ended: [false; 256],
             refused: [None; 256],
         }

@@ -91,66 +91,72 @@ impl Observer {
         let short = job.is_short_dcf();
         let long = job.bytes() > MOST_BYTES;
         let late = self.deadline(time).is_none();
-        let taken = step.after.transaction != step.before.transaction;
-        let when = |condition: bool, rule| condition.then_some(rule);
         match refusal {
             Refusal::TableFull => {
                 self.reach(by_job(job, Rule::FullWrite, Rule::FullRead, Rule::FullDcf));
-                self.reach_all([
-                    when(short, Rule::FullAheadOfShort),
-                    when(long, Rule::FullAheadOfNoRoom),
-                    when(late, Rule::FullAheadOfDeadline),
+                self.reach_where([
+                    (short, Rule::FullAheadOfShort),
+                    (long, Rule::FullAheadOfNoRoom),
+                    (late, Rule::FullAheadOfDeadline),
                 ]);
             }
             Refusal::Busy => {
                 self.reach(by_job(job, Rule::BusyWrite, Rule::BusyRead, Rule::BusyDcf));
                 self.number(step);
-                self.reach_all([
-                    when(taken, Rule::BusyTakesNumber),
-                    when(short, Rule::BusyAheadOfShort),
-                    when(long, Rule::BusyAheadOfNoRoom),
-                    when(late, Rule::BusyAheadOfDeadline),
+                self.reach_where([
+                    (takes_number(step), Rule::BusyTakesNumber),
+                    (short, Rule::BusyAheadOfShort),
+                    (long, Rule::BusyAheadOfNoRoom),
+                    (late, Rule::BusyAheadOfDeadline),
                 ]);
             }
-            Refusal::DcfTooShort => {
-                let entered = step.before.get(node).is_none();
-                let held = step.after.get(node);
-                let new = held.map(|held| (held.transaction, held.send, held.last));
-                self.number(step);
-                self.reach_all([
-                    when(entered, Rule::ShortNew),
-                    when(!entered, Rule::ShortIdle),
-                    when(entered && new == Some((0, 0, 63)), Rule::New),
-                    when(taken, Rule::ShortTakesNumber),
-                    when(late, Rule::ShortAheadOfDeadline),
-                ]);
+            Refusal::DcfTooShort => self.too_short(node, late, step),
+            Refusal::NoRoom => self.no_room(job, late),
+            Refusal::DeadlineRange => {
+                let (write, read) = (Rule::DeadlineWrite, Rule::DeadlineRead);
+                self.reach(by_job(job, write, read, Rule::DeadlineDcf));
             }
-            Refusal::NoRoom => {
-                // A read has no job bytes.
-                let dcf = matches!(job, Job::Dcf(_));
-                let just = matches!(job, Job::Write { data, .. } if data.len() == MOST_WRITTEN + 1);
-                self.reach_all([
-                    when(dcf, Rule::NoRoomDcf),
-                    when(!dcf, Rule::NoRoomWrite),
-                    when(just, Rule::NoRoomWrite4093),
-                    when(late, Rule::NoRoomAheadOfDeadline),
-                ]);
-            }
-            Refusal::DeadlineRange => self.reach(by_job(
-                job,
-                Rule::DeadlineWrite,
-                Rule::DeadlineRead,
-                Rule::DeadlineDcf,
-            )),
             Refusal::BadRecord | Refusal::ShortRecord => {}
         }
     }
 
-    fn reach_all<const N: usize>(&mut self, rules: [Option<Rule>; N]) {
-        for rule in rules.into_iter().flatten() {
-            self.reach(rule);
+    fn too_short(&mut self, node: u8, late: bool, step: &Step) {
+        let entered = step.before.get(node).is_none();
+        let held = step.after.get(node);
+        let numbers = held.map(|held| (held.transaction, held.send, held.last));
+        self.number(step);
+        self.reach_where([
+            (entered, Rule::ShortNew),
+            (!entered, Rule::ShortIdle),
+            (entered && numbers == Some((0, 0, 63)), Rule::New),
+            (takes_number(step), Rule::ShortTakesNumber),
+            (late, Rule::ShortAheadOfDeadline),
+        ]);
+    }
+
+    /// A read has no job bytes.
+    fn no_room(&mut self, job: &Job, late: bool) {
+        let dcf = matches!(job, Job::Dcf(_));
+        let just = matches!(job, Job::Write { data, .. } if data.len() == MOST_WRITTEN + 1);
+        self.reach_where([
+            (dcf, Rule::NoRoomDcf),
+            (!dcf, Rule::NoRoomWrite),
+            (just, Rule::NoRoomWrite4093),
+            (late, Rule::NoRoomAheadOfDeadline),
+        ]);
+    }
+
+    fn reach_where<const N: usize>(&mut self, rules: [(bool, Rule); N]) {
+        for (holds, rule) in rules {
+            if holds {
+                self.reach(rule);
+            }
         }
     }
+}
+
+fn takes_number(step: &Step) -> bool {
+    step.after.transaction != step.before.transaction
 }
 
 fn by_job(job: &Job, write: Rule, read: Rule, dcf: Rule) -> Rule {

@@ -10,7 +10,8 @@ mod replies;
 mod table;
 mod timeouts;
 
-use super::stage::{Stage, ABORT, INITIATE};
+use super::stage::{Stage, INITIATE};
+use crate::record::ABORT;
 use crate::table::State;
 
 pub use replies::{stuck, upload_room};

@@ -2,8 +2,9 @@
 
 use super::{ask_for, clear, play, reach, At, OUTSTANDING};
 use crate::generate::stage::{
-    Reply, Stage, ABORT, COMPLETE, EXPEDITED, INITIALIZATION, INITIATE, SEGMENT, VALID,
+    Reply, Stage, COMPLETE, EXPEDITED, INITIALIZATION, INITIATE, SEGMENT, VALID,
 };
+use crate::record::ABORT;
 
 /// Nodes not held, nothing outstanding, another receive number.
 pub fn ignored(stage: &mut Stage) {

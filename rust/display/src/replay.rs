@@ -25,12 +25,11 @@ pub fn rows(text: &[u8]) -> Result<Vec<Row>, Bad> {
 
 /// An operation that is none keeps its number, a record that was short has none.
 fn operation(number: Option<u8>) -> String {
-    let Some(number) = number else {
-        return "-".into();
-    };
-    let mut known = OPERATIONS.iter().zip(1..);
-    let name = known.find_map(|(name, of)| (of == number).then_some(name));
-    name.map_or(number.to_string(), ToString::to_string)
+    match number {
+        Some(number @ 1..=GATHER) => OPERATIONS[usize::from(number) - 1].into(),
+        Some(number) => number.to_string(),
+        None => "-".into(),
+    }
 }
 
 fn outcome(line: &Line) -> Result<Vec<Row>, Bad> {

@@ -1,6 +1,6 @@
-//! Traces and the oracle's lines, as the files that programs of the repository are run on: a sample that
-//! stands in the repository and runs without Rust (a pair for the replay, with both parameters absent,
-//! and two for the replay with states), and one long trace that is drawn anew for each gate.
+//! Traces and the oracle's lines, as the files that our programs are run on: a sample that stands in
+//! crates/ and runs without Rust (a pair for replay_fixed, with both parameters absent, and one each for
+//! replay_states and replay_states_retries), and one long trace that is drawn anew for each gate.
 
 use crate::counts::Counts;
 use crate::generate;

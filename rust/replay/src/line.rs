@@ -1,4 +1,5 @@
-//! The lines that are printed: document 01's line of a record, and the state line of the test program.
+//! The lines that are printed: document 01's line of a record, and the state line of replay_states. Numbers
+//! and hex are put without `format!`, since tests/bench counts the instructions of a run.
 
 use crate::client::{Outcome, Sent};
 use crate::sum::Sum;

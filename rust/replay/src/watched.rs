@@ -48,8 +48,8 @@ impl Watched {
         &self.table
     }
 
-    /// Takes a record and puts its two lines. An error says that the wrapper and the repository do
-    /// not agree.
+    /// Takes a record and puts its two lines. An error says that the ledger, or a mirror, and the
+    /// repository do not agree.
     pub fn step(&mut self, bytes: &RecordBytes, out: &mut Vec<u8>) -> Result<Step, String> {
         let gathered = self.gather.len();
         let before = self.table.clone();

@@ -1,4 +1,4 @@
-//! What the repository alone does where document 01 adds something: each addition of the wrapper is
+//! What the repository alone does where document 01 adds something: each addition of src/client.rs is
 //! one that the repository lacks.
 
 #![cfg(has_oracle)]

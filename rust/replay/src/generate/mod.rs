@@ -27,7 +27,7 @@ pub struct Run {
 }
 
 impl Run {
-    /// The trace as the test program with states takes it.
+    /// The trace as replay_states takes it.
     pub fn with_parameters(&self) -> Vec<u8> {
         let mut input = parameters::bytes(&self.parameters).to_vec();
         input.extend_from_slice(&self.records);
@@ -42,7 +42,7 @@ impl Run {
     }
 }
 
-/// The trace of a seed. An error says that the wrapper and the repository do not agree.
+/// The trace of a seed. An error says that the ledger and the repository do not agree.
 pub fn drawn(seed: u64) -> Result<Run, String> {
     let mut rng = Rng::new(seed.wrapping_mul(0x9E37_79B9_7F4A_7C15) ^ seed << 1);
     let parameters = draw::parameters(&mut rng);
@@ -72,8 +72,8 @@ pub fn longest() -> Result<Run, String> {
     stage.finish(&[6; 9])
 }
 
-/// Document 01's own run first, then every scene but one, with both parameters absent. It ends inside
-/// a record.
+/// Document 01's own run first, then every scene but `first_abort` and `upload_room`, with both parameters
+/// absent. It ends inside a record.
 pub fn fixed_replay() -> Result<Run, String> {
     let mut stage = Stage::new(ObjectDictionary::default(), Rng::new(1));
     play_all(&mut stage, &scenes::SCENES);
@@ -82,8 +82,8 @@ pub fn fixed_replay() -> Result<Run, String> {
     stage.finish(&[1; 31])
 }
 
-/// Document 01's abort at a timeout first, then the short scenes and the one that was left out above,
-/// with a short timeout and retries 0.
+/// Document 01's abort at a timeout first, then the short scenes and `upload_room`, with a short timeout
+/// and retries 0.
 pub fn fixed_no_retries() -> Result<Run, String> {
     let parameters = ObjectDictionary {
         timeout: Some(3),

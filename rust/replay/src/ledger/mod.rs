@@ -1,4 +1,4 @@
-//! What the wrapper keeps of each held node beside the repository's connection, written from document
+//! What the client keeps of each held node beside the repository's connection, written from document
 //! 01: enough to say why a connection ended and what it delivered, and whether an upload fits.
 //!
 //! The repository closes a connection without a word, so the reason is found here, from the same

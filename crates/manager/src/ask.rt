@@ -62,8 +62,8 @@ pub(crate) fn leaving(m: SdoClientManager, answer: Answer) -> Done
     }
 }
 
-// One call that walks: ask or tick.
-fn turn(t: Turn, m: SdoClientManager, n: Now, store: &[u8], output: &mut [u8]) -> Done
+// Ask or tick, by whose turn it is.
+pub fn turn(t: Turn, m: SdoClientManager, n: Now, store: &[u8], output: &mut [u8]) -> Done
     ensures { λ d. ⌜ d ≡ turnOf t m n (now (store .entry)) (now (output .entry)) ⌝ }
     ensures { λ _. ⌜ now (output .exit) ≡ turnOutput t m n (now (store .entry)) (now (output .entry)) ⌝ }
 {

@@ -14,7 +14,10 @@ use lines::line::write_line;
 use manager::types::Answer;
 use table::types::Ends;
 use table::types::SdoClientManager;
+use table::types::no_ends;
 use trace::apply::apply;
+use trace::gather::Gathering;
+use trace::gather::gather_record;
 
 // How far a run is: the manager, the bytes gathered, the records read, the text not yet written, and whether the last record ended its
 // node's job Complete.
@@ -138,7 +141,7 @@ fn one(
     }
 }
 
-// The records of a piece.
+// The records of a piece. A gather is done on the spot: what it changes is not the manager, which is long to move.
 fn piece(
     run: Run,
     p: Parameters,
@@ -155,8 +158,20 @@ fn piece(
             let b = part(input, at, input.len() - at);
             return one(r, p, b, store, gather, output, text);
         }
-        r = one(r, p, part(input, at, 32), store, gather, output, text);
+        let b = part(input, at, 32);
         at += 32;
+        if r.number == 65535 {
+            return r;
+        }
+        let Gathering::Gathers(g) = gather_record(r.gathered, b, gather) else {
+            r = one(r, p, b, store, gather, output, text);
+            continue;
+        };
+        let answer = g.answer;
+        r.number += 1;
+        r.gathered = g.gathered;
+        r.text = told(r.text, r.number, b, answer, no_ends(), output, text);
+        r.complete = false;
     }
     r
 }

@@ -1,4 +1,6 @@
 pub mod Buffers
+pub mod GatherAlone
+pub mod Gathers
 pub mod Operations
 pub mod Performing
 pub mod Records

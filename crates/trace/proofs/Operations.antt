@@ -4,7 +4,7 @@ use mathlib.Core.Path.{_≡_}
 use borrow.Author.Tests.{ne-eqb}
 use Rattle.laws.specs.Pick.{pick}
 use Rattle.trace.specs.Record.{operationOf}
-use Rattle.trace.specs.Types.{Operation, OperationRead, Use}
+use Rattle.trace.specs.Types.{Operation, OperationRead, Turn, Use}
 
 module _ (n : ℕ) where
   pub known-1 : n ≡ 1 → OperationRead.Known (Operation.Uses Use.Write) ≡ operationOf n
@@ -23,11 +23,11 @@ module _ (n : ℕ) where
   unfolding operationOf pick
   known-4 e = rw e
 
-  pub known-5 : n ≡ 5 → OperationRead.Known Operation.Tick ≡ operationOf n
+  pub known-5 : n ≡ 5 → OperationRead.Known (Operation.Turns Turn.Ticking) ≡ operationOf n
   unfolding operationOf pick
   known-5 e = rw e
 
-  pub known-6 : n ≡ 6 → OperationRead.Known Operation.Ask ≡ operationOf n
+  pub known-6 : n ≡ 6 → OperationRead.Known (Operation.Turns Turn.Asking) ≡ operationOf n
   unfolding operationOf pick
   known-6 e = rw e
 

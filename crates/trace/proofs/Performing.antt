@@ -1,15 +1,13 @@
 -- What an operation comes to, and a record that is read: the answer, the store, the gather's bytes and the output together. Assumes nothing.
-use Prim.Native.Nat.{ℕ, _+_, _≤_, _<_}
-use mathlib.Core.Path.{_≡_, refl, _∙_}
+use Prim.Native.Nat.{ℕ, _≤_}
+use mathlib.Core.Path.{_≡_}
 use lib.ListN.{length}
 use Rattle.laws.proofs.Answers.{told}
-use Rattle.laws.proofs.Picks.{below, not-below}
+use Rattle.laws.proofs.Picks.{not-below}
 use Rattle.codec.specs.Bytes.{Bytes}
-use Rattle.codec.specs.Writing.{putBuffer}
-use Rattle.codec.proofs.Writing.{put-fits}
+use Rattle.trace.specs.Gather.{gatherSize, heldBytes}
 use Rattle.trace.specs.Record.{recordRead}
 use Rattle.trace.specs.Replay.{
-  answeredWith,
   appliedAs,
   appliedGather,
   appliedOf,
@@ -17,19 +15,13 @@ use Rattle.trace.specs.Replay.{
   appliedStore,
   gatherAfter,
   gatherAs,
-  gatherSize,
-  gatheredWith,
-  heldBytes,
-  moreGathered,
-  mostGathered,
   outputAfter,
   outputAs,
   performed,
-  refusedWith,
   storeAfter,
   storeAs,
 }
-use Rattle.trace.specs.Types.{Answer, Applied, Now, Operation, Parameter, Record, RecordRead, Refusal, SdoClientManager}
+use Rattle.trace.specs.Types.{Applied, Now, Operation, Parameter, Record, RecordRead, SdoClientManager}
 
 module _ (r : Record) (m : SdoClientManager) (held : ℕ) (n : Now) (own store gather output : Bytes) where
   abbrev pub Comes : Operation → Applied → Bytes → Bytes → Bytes → Type 0
@@ -40,19 +32,6 @@ module _ (r : Record) (m : SdoClientManager) (held : ℕ) (n : Now) (own store g
   -- by the arm that the operation took
   pub comes : {op arm : Operation} {a : Applied} {s g o : Bytes} → op ≡ arm → Comes arm a s g o → Comes op a s g o
   comes e h = rw e h
-
--- a gather past 4,096 bytes, and any other
-module _ (m : SdoClientManager) (held : ℕ) (own gather : Bytes) {a : Applied} where
-  pub gather-refused : mostGathered < held + length own → a ≡ refusedWith m Refusal.NoRoom held
-      → (a ≡ gatheredWith m held (length own)) × (gather ≡ moreGathered gather held own)
-  unfolding gatheredWith moreGathered
-  gather-refused h e = (below _ _ _ _ h e, below _ _ _ _ h refl)
-
-  pub gather-done : {after : Bytes} → held + length own ≤ mostGathered → held + length own ≤ length gather
-      → a ≡ answeredWith m Answer.Nothing (held + length own) → after ≡ putBuffer gather held own
-      → (a ≡ gatheredWith m held (length own)) × (after ≡ moreGathered gather held own)
-  unfolding gatheredWith moreGathered
-  gather-done h k e f = (not-below _ _ _ _ h e, not-below _ _ _ _ h (f ∙ put-fits gather own held k))
 
 module _ (m : SdoClientManager) (gathered : ℕ) (b : Bytes) (timeout retries : Parameter) (store gather output : Bytes) where
   abbrev pub Reads : RecordRead → Applied → Bytes → Bytes → Bytes → Type 0

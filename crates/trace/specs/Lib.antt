@@ -1,3 +1,4 @@
+pub mod Gather
 pub mod Record
 pub mod Replay
 pub mod Types

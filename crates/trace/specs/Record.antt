@@ -5,7 +5,7 @@ use lib.Dec.{ltb, eqb}
 use lib.ListN.{length, getD}
 use Rattle.laws.specs.Pick.{pick}
 use Rattle.codec.specs.Bytes.{Bytes, le16At, le32At, partAt}
-use Rattle.trace.specs.Types.{Operation, OperationRead, Record, RecordRead, Refusal, Use}
+use Rattle.trace.specs.Types.{Operation, OperationRead, Record, RecordRead, Refusal, Turn, Use}
 
 abbrev pub le64At : Bytes → ℕ → ℕ
 le64At b at = le32At b at + le32At b (at + 4) * 4294967296
@@ -16,8 +16,8 @@ operationOf n =
     pick (eqb n 2) (OperationRead.Known Operation.Read) (
     pick (eqb n 3) (OperationRead.Known (Operation.Uses Use.Dcf)) (
     pick (eqb n 4) (OperationRead.Known (Operation.Uses Use.Reply)) (
-    pick (eqb n 5) (OperationRead.Known Operation.Tick) (
-    pick (eqb n 6) (OperationRead.Known Operation.Ask) (
+    pick (eqb n 5) (OperationRead.Known (Operation.Turns Turn.Ticking)) (
+    pick (eqb n 6) (OperationRead.Known (Operation.Turns Turn.Asking)) (
     pick (eqb n 7) (OperationRead.Known Operation.Gather) OperationRead.Unknown))))))
 
 abbrev pub recordAt : Bytes → Operation → Record

@@ -1,6 +1,6 @@
--- Applying a record (document 01, "Replay"). Gather collects up to 4,096 bytes; operations 1, 3 and 4 use these plus their own data and
--- then empty it, refused by the library or not. A BadRecord leaves it.
-use Prim.Native.Nat.{ℕ, _+_, _/_, _%_, min}
+-- Applying a record (document 01, "Replay"). Operations 1, 3 and 4 use what was gathered plus their own data and then empty it, refused
+-- by the library or not. A BadRecord leaves it.
+use Prim.Native.Nat.{ℕ, _+_, _/_, _%_}
 use mathlib.Core.List.{[], _∷_, _++_}
 use lib.Dec.{ltb}
 use lib.ListN.{length, take}
@@ -20,6 +20,7 @@ use Rattle.manager.specs.Calls.{
   writes,
 }
 use Rattle.table.specs.Sweep.{noEnds}
+use Rattle.trace.specs.Gather.{gatherSize, gatheredWith, heldBytes, moreGathered}
 use Rattle.trace.specs.Record.{ownData, recordRead}
 use Rattle.trace.specs.Types.{
   Answer,
@@ -27,6 +28,7 @@ use Rattle.trace.specs.Types.{
   CommandId,
   DataSize,
   Done,
+  Gathered,
   Now,
   Operation,
   Parameter,
@@ -36,19 +38,8 @@ use Rattle.trace.specs.Types.{
   SdoClientManager,
   SdoCommand,
   SequenceLayerHeader,
-  Turn,
   Use,
 }
-
--- how many bytes are gathered, whatever the count says; and so many with a record's own data
-abbrev pub mostGathered : ℕ
-mostGathered = 4096
-
-abbrev pub gatherSize : ℕ
-gatherSize = 4112
-
-abbrev pub heldBytes : ℕ → ℕ
-heldBytes gathered = min gathered mostGathered
 
 -- the bytes that operations 1, 3 and 4 use
 abbrev pub usedBytes : Bytes → ℕ → Bytes → Bytes
@@ -58,6 +49,7 @@ usedBytes gather held own = take held gather ++ own
 abbrev pub replyHeader : ℕ → SequenceLayerHeader
 replyHeader index = headerOf (index % 256) (index / 256)
 
+-- the bytes of a Nil command of which only the flags are read
 abbrev pub flagged : ℕ → Bytes
 flagged flags = 0 ∷ 0 ∷ flags ∷ 0 ∷ 0 ∷ 0 ∷ 0 ∷ 0 ∷ 0 ∷ 0 ∷ 0 ∷ 0 ∷ []
 
@@ -83,16 +75,12 @@ andHeld done gathered = record { done = done; gathered = gathered }
 abbrev pub answeredWith : SdoClientManager → Answer → ℕ → Applied
 answeredWith m answer gathered = andHeld (record { manager = m; answer = answer; ends = noEnds }) gathered
 
+-- what a gather came to
+abbrev pub gatheredAs : SdoClientManager → Gathered → Applied
+gatheredAs m g = answeredWith m (g .answer) (g .gathered)
+
 abbrev pub refusedWith : SdoClientManager → Refusal → ℕ → Applied
 refusedWith m r held = answeredWith m (Answer.Refused r) held
-
--- a gather: 7 past 4,096 bytes
-unfoldable pub gatheredWith : SdoClientManager → ℕ → ℕ → Applied
-gatheredWith m held more =
-    pick (ltb mostGathered (held + more)) (refusedWith m Refusal.NoRoom held) (answeredWith m Answer.Nothing (held + more))
-
-unfoldable pub moreGathered : Bytes → ℕ → Bytes → Bytes
-moreGathered gather held own = pick (ltb mostGathered (held + length own)) gather (placed gather held own)
 
 -- what an operation comes to: its answer and what is gathered after it, the store, the gather's bytes and the output
 abbrev pub performed : Operation → Record → SdoClientManager → ℕ → Now → Bytes → Bytes → Bytes → Bytes → Applied
@@ -100,29 +88,25 @@ performed (Operation.Uses u) r m held n own store gather output =
     andHeld (useDone u r m n (usedBytes gather held own) store) 0
 performed Operation.Read r m held n own store gather output =
     andHeld (startDone m (r .node) (reads (r .index) (r .«sub_index»)) n store) held
-performed Operation.Tick r m held n own store gather output = andHeld (turnOf Turn.Ticking m n store output) held
-performed Operation.Ask r m held n own store gather output = andHeld (turnOf Turn.Asking m n store output) held
-performed Operation.Gather r m held n own store gather output = gatheredWith m held (length own)
+performed (Operation.Turns t) r m held n own store gather output = andHeld (turnOf t m n store output) held
+performed Operation.Gather r m held n own store gather output = gatheredAs m (gatheredWith held (length own))
 
 abbrev pub storeAfter : Operation → Record → SdoClientManager → ℕ → Now → Bytes → Bytes → Bytes → Bytes
 storeAfter (Operation.Uses u) r m held n own store gather = useStore u r m n (usedBytes gather held own) store
 storeAfter Operation.Read r m held n own store gather = store
-storeAfter Operation.Tick r m held n own store gather = store
-storeAfter Operation.Ask r m held n own store gather = store
+storeAfter (Operation.Turns t) r m held n own store gather = store
 storeAfter Operation.Gather r m held n own store gather = store
 
 abbrev pub gatherAfter : Operation → ℕ → Bytes → Bytes → Bytes
 gatherAfter (Operation.Uses u) held own gather = placed gather held own
 gatherAfter Operation.Read held own gather = gather
-gatherAfter Operation.Tick held own gather = gather
-gatherAfter Operation.Ask held own gather = gather
+gatherAfter (Operation.Turns t) held own gather = gather
 gatherAfter Operation.Gather held own gather = moreGathered gather held own
 
 abbrev pub outputAfter : Operation → SdoClientManager → Now → Bytes → Bytes → Bytes
 outputAfter (Operation.Uses u) m n store output = output
 outputAfter Operation.Read m n store output = output
-outputAfter Operation.Tick m n store output = turnOutput Turn.Ticking m n store output
-outputAfter Operation.Ask m n store output = turnOutput Turn.Asking m n store output
+outputAfter (Operation.Turns t) m n store output = turnOutput t m n store output
 outputAfter Operation.Gather m n store output = output
 
 -- the time of a record, with the two parameters

@@ -1,5 +1,4 @@
-// A record applied to a manager and its store. What was gathered lies at the start of a lent buffer of 4,112 bytes: 4,096 for gather, and
-// 16 for the data of the record that uses them.
+// A record applied to a manager and its store.
 ghost use mathlib.Core.Path.{_≡_};
 ghost use Prim.Native.Nat.{_≤_};
 ghost use lib.ListN.{length};
@@ -9,8 +8,7 @@ ghost use Rattle.trace.specs.Replay.{
   useDone,
   useStore,
   answeredWith,
-  gatheredWith,
-  moreGathered,
+  gatheredAs,
   gatherAfter,
   performed,
   storeAfter,
@@ -20,6 +18,8 @@ ghost use Rattle.trace.specs.Replay.{
   appliedGather,
   appliedOutput,
 };
+use crate::gather::Gathered;
+use crate::gather::gather_more;
 use crate::record::Operation;
 use crate::record::Record;
 use crate::record::RecordRead;
@@ -38,8 +38,7 @@ use codec::sequence::ReceiveConnState;
 use codec::sequence::SendConnState;
 use codec::sequence::SequenceLayerHeader;
 use codec::sequence::SequenceRead;
-use manager::ask::get_pending_request;
-use manager::ask::tick;
+use manager::ask::turn;
 use manager::reply::handle_response;
 use manager::start::read_object_by_index;
 use manager::start::start_configuration_download;
@@ -142,17 +141,11 @@ fn use_bytes(
     }
 }
 
-// Gathers, where it does not go past 4,096 bytes.
-fn gather_more(m: SdoClientManager, held: usize, own: &[u8], gather: &mut [u8]) -> Applied
-    requires { ⌜ (held ≤ 4096) × (length (now own) ≤ 16) × (4112 ≤ length (now gather)) ⌝ }
-    ensures { λ r. ⌜ r ≡ gatheredWith m held (length (now (own .entry))) ⌝ }
-    ensures { λ _. ⌜ now (gather .exit) ≡ moreGathered (now (gather .entry)) held (now (own .entry)) ⌝ }
+fn gathered_as(m: SdoClientManager, g: Gathered) -> Applied
+    ensures { λ r. ⌜ r ≡ gatheredAs m g ⌝ }
 {
-    if 4096 < held + own.len() {
-        return answered(m, Answer::Refused(Refusal::NoRoom), held);
-    }
-    put(gather, held, own);
-    answered(m, Answer::Nothing, held + own.len())
+    let answer = g.answer;
+    answered(m, answer, g.gathered)
 }
 
 fn perform(
@@ -187,19 +180,13 @@ fn perform(
                 gathered: held,
             };
         }
-        Operation::Tick => {
+        Operation::Turns(t) => {
             return Applied {
-                done: tick(m, when, store, output),
+                done: turn(t, m, when, store, output),
                 gathered: held,
             };
         }
-        Operation::Ask => {
-            return Applied {
-                done: get_pending_request(m, when, store, output),
-                gathered: held,
-            };
-        }
-        Operation::Gather => return gather_more(m, held, own, gather),
+        Operation::Gather => return gathered_as(m, gather_more(held, own, gather)),
     }
 }
 

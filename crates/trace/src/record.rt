@@ -5,6 +5,7 @@ ghost use lib.ListN.{length};
 ghost use Rattle.codec.specs.Bytes.{le16At, le32At};
 ghost use Rattle.trace.specs.Record.{le64At, operationOf, recordAt, recordRead};
 use codec::refusal::Refusal;
+use table::types::Turn;
 
 // Operations 1, 3 and 4: they use what was gathered plus their own data.
 pub enum Use {
@@ -16,8 +17,7 @@ pub enum Use {
 pub enum Operation {
     Uses(Use),
     Read,
-    Tick,
-    Ask,
+    Turns(Turn),
     Gather,
 }
 
@@ -83,8 +83,8 @@ fn operation_of(n: u8) -> OperationRead
         2 => OperationRead::Known(Operation::Read),
         3 => OperationRead::Known(Operation::Uses(Use::Dcf)),
         4 => OperationRead::Known(Operation::Uses(Use::Reply)),
-        5 => OperationRead::Known(Operation::Tick),
-        6 => OperationRead::Known(Operation::Ask),
+        5 => OperationRead::Known(Operation::Turns(Turn::Ticking)),
+        6 => OperationRead::Known(Operation::Turns(Turn::Asking)),
         7 => OperationRead::Known(Operation::Gather),
         _ => OperationRead::Unknown,
     }

@@ -27,21 +27,15 @@ returns-2 c =
 
 returns-3 : tie.Need-returns-3
 returns-3 c =
-    let a = c .before .before .before .before .before .before .before .before .before .before .before .args in
-    comes (a .r) (a .m) (a .held) (a .when) (a .own .now) (a .store .now) (a .gather .now) (a .output .now) (c .before .before .before .before .before .enum-told2 .given .1)
-    (rw (c .before .before .tick .ensures .0), (refl, (refl, c .before .before .tick .ensures .1)))
+    let a = c .before .before .before .before .before .before .before .before .before .before .before .before .args in
+    comes (a .r) (a .m) (a .held) (a .when) (a .own .now) (a .store .now) (a .gather .now) (a .output .now) (c .before .before .before .before .before .before .operation2 .given .1)
+    (rw (c .before .before .turn .ensures .0), (refl, (refl, c .before .before .turn .ensures .1)))
 
 returns-4 : tie.Need-returns-4
 returns-4 c =
     let a = c .before .before .before .before .before .before .before .before .before .before .before .args in
-    comes (a .r) (a .m) (a .held) (a .when) (a .own .now) (a .store .now) (a .gather .now) (a .output .now) (c .before .before .before .before .before .enum-told3 .given .1)
-    (rw (c .before .before .get-pending-request .ensures .0), (refl, (refl, c .before .before .get-pending-request .ensures .1)))
-
-returns-5 : tie.Need-returns-5
-returns-5 c =
-    let a = c .before .before .before .before .before .before .before .before .before .before .args in
-    comes (a .r) (a .m) (a .held) (a .when) (a .own .now) (a .store .now) (a .gather .now) (a .output .now) (c .before .before .before .before .enum-told4 .given .1)
-    (c .before .before .gather-more .ensures .0, (refl, (c .before .before .gather-more .ensures .1, refl)))
+    comes (a .r) (a .m) (a .held) (a .when) (a .own .now) (a .store .now) (a .gather .now) (a .output .now) (c .before .before .before .before .before .enum-told2 .given .1)
+    (c .gathered-as .ensures ∙ rw (c .before .before .before .gather-more .ensures .0), (refl, (c .before .before .before .gather-more .ensures .1, refl)))
 
 pub perform-spec : {M : Type 1} → statement M
 perform-spec =
@@ -66,10 +60,6 @@ perform-spec =
     returns-3
     (λ c. search needs)
     (λ c κs. search needs)
-    (λ c. search needs)
-    (λ c. search needs)
-    returns-4
-    (λ c. search needs)
     (λ c κs. search needs)
     (λ c. search needs)
-    returns-5)
+    returns-4)

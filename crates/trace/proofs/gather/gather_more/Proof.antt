@@ -1,0 +1,17 @@
+-- `trace::gather::gather_more` meets its contract: refused past 4,096 bytes, and else put behind what is held. Assumes nothing.
+use native.Mathlib.Omega.{arith}
+use Rattle.trace.proofs.Gathers.{gather-done, gather-refused}
+use borrow.Author.Needs.{needs}
+use Rattle.trace.proofs.gather.gather_more.Statement.{statement}
+use Rattle.trace.proofs.gather.gather_more.Tie as tie
+
+pub gather-more-spec : {M : Type 1} → statement M
+gather-more-spec =
+    tie.close
+    (tie.spec
+    (λ c. search needs)
+    (λ c. gather-refused _ _ _ (omega arith))
+    (λ c κs. search needs)
+    (λ c. search needs)
+    (λ c. search needs)
+    (λ c. gather-done _ _ _ (omega arith) (omega arith) (c .before .before .put .ensures .1)))

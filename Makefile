@@ -1,5 +1,8 @@
 # What the project is built and tested by. `make test` is the gate.
 
+SHELL = /bin/bash
+.SHELLFLAGS = -o pipefail -c
+
 .PHONY: test replay lib display trace compare dissect bench
 
 test:
@@ -19,8 +22,7 @@ lib:
 # Frames as hex on standard input, one a line, shown in words; with DO=replay, the lines that the replay printed (docs/TRACES.md).
 display: DO =
 display: lib
-	@cd rust && cargo build --release --offline --quiet -p display
-	@rust/target/release/display $(DO)
+	@cd rust && ../tests/x86-64 cargo run --release --offline --quiet -p display -- $(DO)
 
 # Readable lines on standard input to the replay's records on standard output; with DO=read, records to lines (docs/TRACES.md).
 trace: DO = write
@@ -46,12 +48,13 @@ dissect:
 	@cd rust && cargo build --release --offline --quiet -p trace -p capture
 	@tests/dissect $(FILES)
 
-# Instructions of our codec and of our replay, and of the repository's, by callgrind, on x86-64. Debian's package valgrind is installed if
-# it is not there.
+# Instructions of our codec and of our replay, and of the repository's. By callgrind on x86-64, where Debian's package valgrind is installed
+# if it is not there; elsewhere the replay's alone, by Debian's emulator.
 bench: lib
-	command -v valgrind > /dev/null || { apt-get update && apt-get install -y valgrind; }
-	cd rust && cargo run --release --offline --quiet -p bench
+	@if [ "$$(uname -m)" = x86_64 ]; then \
+		command -v valgrind > /dev/null || { apt-get update && apt-get install -y valgrind; } && \
+		cd rust && cargo run --release --offline --quiet -p bench; \
+	else echo "not counted on $$(uname -m): the codec's instructions"; fi
 	@rt check replay 1>&2
-	@tests/programs
-	@cd rust && cargo build --release --offline --quiet -p trace -p replay_oracle
+	@cd rust && ../tests/x86-64 cargo build --release --offline --quiet -p trace -p replay_oracle
 	@tests/bench

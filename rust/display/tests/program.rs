@@ -1,9 +1,9 @@
 //! The program: its arguments, exit status and colours.
 
-use std::process::{Command, Output, Stdio};
+use std::process::{Output, Stdio};
 
 fn run(arguments: &[&str], input: &[u8]) -> Output {
-    let mut command = Command::new(env!("CARGO_BIN_EXE_display"));
+    let mut command = program::built(env!("CARGO_BIN_EXE_display"));
     command.args(arguments).env_remove("NO_COLOR");
     program::run(command.stderr(Stdio::piped()), input).unwrap()
 }

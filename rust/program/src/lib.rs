@@ -1,6 +1,7 @@
 //! What the programs of the Rust side share: their standard streams, the exit status where one of these
 //! fails or the arguments are wrong, and a run of another program.
 
+use std::env;
 use std::fmt::Display;
 use std::io::{self, ErrorKind, Read, Write};
 use std::process::{Command, ExitCode, Output, Stdio};
@@ -45,6 +46,18 @@ pub fn status(program: &str, done: io::Result<ExitCode>) -> ExitCode {
             tell(program, error);
             ExitCode::from(FAILED)
         }
+    }
+}
+
+/// A program that was built here. Where EMULATOR names one, it was built for another processor, and the emulator runs it.
+pub fn built(path: &str) -> Command {
+    match env::var_os("EMULATOR") {
+        Some(emulator) if !emulator.is_empty() => {
+            let mut command = Command::new(emulator);
+            command.arg(path);
+            command
+        }
+        _ => Command::new(path),
     }
 }
 

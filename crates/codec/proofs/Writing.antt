@@ -4,7 +4,7 @@ use native.Mathlib.Nat.{zero-add}
 use native.Mathlib.Omega.{arith}
 use mathlib.Core.Path.{_≡_, refl, sym, _∙_}
 use mathlib.Core.List.{[], _∷_, _++_, append-assoc}
-use lib.ListN.{length, take, drop, set, length-append}
+use lib.ListN.{length, take, drop, set, length-append, length-take, length-drop}
 use lib.Seq.{sets-eq, take-at, drop-append-add, drop-drop}
 use Rattle.laws.proofs.Picks.{within, beyond}
 use Rattle.codec.specs.Bytes.{Bytes, placed}
@@ -15,6 +15,11 @@ use Rattle.codec.specs.declared.command.SdoCommand.{SdoCommand}
 use Rattle.codec.specs.declared.command.Segmentation.{Segmentation}
 use Rattle.codec.specs.declared.refusal.Refusal.{Refusal}
 use Rattle.codec.specs.declared.sequence.Written.{Written}
+
+-- bytes put within others leave their number
+pub placed-length : (b : Bytes) (at : ℕ) (a : Bytes) → at + length a ≤ length b → length (placed b at a) ≡ length b
+unfolding placed
+placed-length b at a h = rw (length-append, length-append, length-take, length-drop) (omega arith)
 
 module _ (bytes buffer : Bytes) where
   pub write-refused : length buffer < length bytes

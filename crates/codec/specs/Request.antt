@@ -1,6 +1,6 @@
 -- The request readers (document 01, "Numbers that refuse", 3: index request under 4 bytes; multiple read not a multiple of 4). An index
--- request is index (2), sub-index (1), one byte that is ignored, and for a write its data; a WriteAllByIndex has no sub-index. A
--- multiple read is entries of index (2), sub-index (1) and a byte that is ignored.
+-- request is index (2), sub-index (1), one byte that is ignored, and for a write its data; a WriteAllByIndex has no sub-index:
+-- that byte is ignored too. A multiple read is entries of index (2), sub-index (1) and a byte that is ignored.
 use Prim.Native.Nat.{ℕ, _+_, _-_, _*_, _/_, _%_}
 use lib.Dec.{ltb, eqb}
 use lib.ListN.{length, getD}

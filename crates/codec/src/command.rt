@@ -1,7 +1,7 @@
 // The command: its numbers, its header with named flags, and reading and writing it (document 01, "Bytes"). The names are those of the
 // repository's command/base.rs. A command's payload stays where it is, a part of the caller's bytes.
 ghost use mathlib.Core.Path.{_≡_};
-ghost use Prim.Native.Nat.{_+_, _<_, _≤_};
+ghost use Prim.Native.Nat.{_<_, _≤_};
 ghost use lib.ListN.{length};
 ghost use Rattle.codec.specs.Bytes.{placed};
 ghost use Rattle.codec.specs.Command.{

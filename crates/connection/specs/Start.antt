@@ -3,7 +3,6 @@
 -- Job bytes are the whole DCF, or a write's data plus its 4 head bytes; they lie at the start of the room.
 use Prim.Native.Nat.{ℕ, _+_, min}
 use mathlib.Core.Bool.{Bool, true, false}
-use mathlib.Core.List.{[]}
 use lib.Dec.{ltb, leb}
 use lib.ListN.{length}
 use Rattle.laws.specs.Pick.{pick}
@@ -28,7 +27,7 @@ use Rattle.connection.specs.Types.{
   SdoJob,
 }
 
--- neither Idle nor Closed: refusal 4
+-- Idle or Closed, where a start is taken; any other state gets refusal 4
 abbrev pub isIdle : SdoClientConnectionState → Bool
 isIdle SdoClientConnectionState.Idle = true
 isIdle SdoClientConnectionState.Opening = false

@@ -1,6 +1,5 @@
 // Ask: what a connection has to send. It looks at the record alone, and answers the new record and the command with its place.
 ghost use mathlib.Core.Path.{_≡_};
-ghost use Prim.Native.Nat.{_+_, _%_};
 ghost use Rattle.connection.specs.Ask.{quiet as quietStep, given as givenStep, finish as finishOf, askRead, askFirst, askLater, askIn, askOf};
 ghost use Rattle.sdo.specs.Commands.{outgoing};
 ghost use Rattle.sdo.specs.Record.{ended as endedWith};

@@ -45,11 +45,12 @@ use Rattle.connection.specs.Start.{
   startWrite,
   startDcf,
 }
+use Rattle.codec.proofs.Writing.{placed-length}
 use Rattle.connection.specs.Tick.{tickOf}
 use Rattle.connection.specs.Types.{Changed, DcfStep, Moment, Now, Outcome, SdoClientConnection as Connection, SdoJob, Stepped}
 use Rattle.exchange.specs.declared.reply.Decision.{Decision}
 use Rattle.laws.proofs.Choices.{decided, either}
-use Rattle.exchange.proofs.ReplySound.{Decides, placed-length, reply-sound}
+use Rattle.exchange.proofs.ReplySound.{Decides, reply-sound}
 use Rattle.exchange.proofs.StepSound.{Steps, ask-sound, tick-sound}
 
 pub new-sound : (node at : ℕ) (room : Bytes) → Consistent (newConnection node at) room

@@ -1,5 +1,6 @@
 -- What ask gives one after another for a loaded transfer, each command acknowledged by a reply before the next ask, is exactly the parts
--- of its total, with document 01's limit. Assumes a deadline that fits, and nothing else.
+-- of its total, with document 01's limit. Assumes an Established connection with the transfer loaded and nothing outstanding,
+-- replies with no abort mark, and a deadline that fits.
 use Prim.Native.Nat.{ℕ, zero, suc, _+_, _-_, _*_, _<_, _%_}
 use native.Mathlib.Omega.{arith}
 use mathlib.Core.Path.{_≡_, refl, _∙_, ap}

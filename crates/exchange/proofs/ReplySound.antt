@@ -5,12 +5,13 @@ use native.Mathlib.Omega.{arith}
 use mathlib.Core.Path.{_≡_, refl, sym, subst}
 use mathlib.Core.Bool.{false}
 use lib.Dec.{leb, eqb}
-use lib.ListN.{length, take, length-append, length-take, length-drop}
+use lib.ListN.{length, take, length-take}
 use borrow.Author.Tests.{leb-true, eqb-true}
 use Rattle.codec.specs.Bytes.{Bytes, placed}
 use Rattle.codec.specs.Dcf.{dcfStep}
 use Rattle.codec.specs.Request.{abortCode}
 use Rattle.codec.proofs.Entries.{Stepped as Found, stepped}
+use Rattle.codec.proofs.Writing.{placed-length}
 use Rattle.exchange.specs.Consistent.{Consistent, LiesIn, WaitsIn, isClosed, isEnded}
 use Rattle.sdo.specs.Parts.{total}
 use Rattle.sdo.specs.Record.{ended, nextTransaction}
@@ -43,10 +44,6 @@ unfolding Decides
 keeps payload i = i
 
 -- bytes put within a room leave its length, and with it what is consistent
-pub placed-length : (room : Bytes) (from : ℕ) (b : Bytes) → from + length b ≤ length room → length (placed room from b) ≡ length room
-unfolding placed
-placed-length room from b h = rw (length-append, length-append, length-take, length-drop) (omega arith)
-
 stored : (payload room : Bytes) (from : ℕ) (c : Connection) → from + length payload ≤ length room → Consistent c room
     → Decides payload room (Decision.Stores c from)
 unfolding Decides

@@ -6,6 +6,7 @@ use lib.Dec.{leb, eqb}
 use lib.ListN.{length}
 use borrow.Author.Tests.{leb-true}
 use Rattle.laws.specs.Pick.{pick}
+use Rattle.laws.proofs.Choices.{either}
 use Rattle.codec.specs.Bytes.{Bytes}
 use Rattle.exchange.specs.Reply.{
   cleared,
@@ -79,26 +80,20 @@ module _ (n : ℕ) (room : Bytes) where
   in-reply SdoClientConnectionState.DownloadInProgress seq kind c = tt
   in-reply SdoClientConnectionState.Closed seq kind c = tt
 
-  -- whichever way a test goes
-  either : (t : Bool) (x y : Decision) → StoresWithin n room x → StoresWithin n room y → StoresWithin n room (pick t x y)
-  unfolding pick
-  either true x y g h = g
-  either false x y g h = h
-
 module _ (seq : SequenceLayerHeader) (cmd : SdoCommand) (payload room : Bytes) where
   taken-reply : (c : SdoClientConnection) → StoresWithin (length payload) room (replyTaken seq cmd payload c room)
-  taken-reply c = either (length payload) room (cmd .header .«is_aborted») _ _ tt (in-reply (length payload) room (c .state) seq _ c)
+  taken-reply c = either (StoresWithin (length payload) room) (cmd .header .«is_aborted») _ _ tt (in-reply (length payload) room (c .state) seq _ c)
 
   heard-reply : (c : SdoClientConnection) → StoresWithin (length payload) room (replyHeard seq cmd payload c room)
   heard-reply c =
-      either (length payload) room (eqb (seq .«send_sequence_number») (c .«last_received_sequence_number»)) _ _ tt
-      (either (length payload) room (eqb (seq .«send_sequence_number») ((c .«last_received_sequence_number» + 1) % 64)) _ _
+      either (StoresWithin (length payload) room) (eqb (seq .«send_sequence_number») (c .«last_received_sequence_number»)) _ _ tt
+      (either (StoresWithin (length payload) room) (eqb (seq .«send_sequence_number») ((c .«last_received_sequence_number» + 1) % 64)) _ _
       (taken-reply (cleared c (seq .«send_sequence_number»))) tt)
 
   to-reply : (o : Outstanding) (c : SdoClientConnection) → StoresWithin (length payload) room (replyTo o seq cmd payload c room)
   to-reply Outstanding.Nothing c = tt
   to-reply (Outstanding.Waits o) c =
-      either (length payload) room (eqb (seq .«receive_sequence_number») (o .send)) _ _
+      either (StoresWithin (length payload) room) (eqb (seq .«receive_sequence_number») (o .send)) _ _
       (heard-reply c) tt
 
   pub stores-within : (c : SdoClientConnection) → StoresWithin (length payload) room (replyOf seq cmd payload c room)

@@ -1,5 +1,5 @@
--- What holds of every connection that the calls make, with its room: numbers below 64, a command outstanding only in the states that send
--- one, a loaded transfer within its job and the job within the room, and an end exactly in Closed.
+-- What holds of every connection that the calls make, with its room: numbers below 64, a command outstanding only in the states that wait for
+-- its reply, a loaded transfer within its job and the job within the room, and an end exactly in Closed.
 use Prim.Native.Nat.{ℕ, _+_, _≤_, _<_}
 use mathlib.Core.Path.{_≡_}
 use mathlib.Core.Bool.{Bool, true, false}

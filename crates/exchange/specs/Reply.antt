@@ -17,7 +17,6 @@ use Rattle.connection.specs.Types.{
   DcfCursor,
   DcfStep,
   LoadedTransfer,
-  Outcome,
   Outstanding,
   Reason,
   ReceiveConnState,

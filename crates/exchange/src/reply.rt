@@ -1,10 +1,6 @@
 // Reply: what a command from the server brings about. Decided on the record and the job's bytes; the only thing done to the room is to
 // put an upload's bytes in it.
 ghost use mathlib.Core.Path.{_≡_};
-ghost use mathlib.Core.List.{List};
-ghost use Prim.Native.Nat.{_+_};
-ghost use lib.ListN.{length};
-ghost use Rattle.sdo.specs.Record.{nextTransaction};
 ghost use Rattle.exchange.specs.Reply.{cleared as clearedOf, deliveredOne, inState, oneMore, receiveInitializes, replied, replyFirst, replyHeard, replyIn, replyMore, replyNext, replyOf, replyOpening, replySent, replyTaken, replyTo, roomAfter, roomFor, sendInitializes, storedLast, storedMore, withBytes, withJob, withTransfer};
 use codec::command::SdoCommand;
 use codec::command::Segmentation;

@@ -5,9 +5,10 @@ use native.Mathlib.Numerals.{add-one}
 use native.Mathlib.Omega.{arith}
 use mathlib.Core.Path.{_≡_, refl, sym, ap, _∙_}
 use mathlib.Core.List.{[], _∷_, _++_, append-assoc, append-nil}
-use lib.ListN.{length, take, drop, set, length-append, length-drop, take-append-drop}
+use lib.ListN.{length, take, drop, set, length-append, take-append-drop}
 use lib.Seq.{append-snoc, drop-at, drop-drop, length-take-le, set-split, take-at}
 use Rattle.codec.specs.Bytes.{Bytes, placed}
+use Rattle.codec.proofs.Writing.{placed-length}
 use Rattle.lines.specs.Text.{Put}
 
 -- a byte stored is a byte put
@@ -26,10 +27,6 @@ put-none out at h =
 pub put-as : {out after : Bytes} {at end : ℕ} {text other : Bytes} → text ≡ other → Put out at text after end → Put out at other after end
 put-as e p = rw (← e) p
 
-length-placed : (out : Bytes) (at : ℕ) (a : Bytes) → at + length a ≤ length out → length (placed out at a) ≡ length out
-unfolding placed
-length-placed out at a h = rw (length-append, length-append, length-take-le at out (omega arith), length-drop) (omega arith)
-
 -- one text put right behind another
 placed-behind : (out : Bytes) (at : ℕ) (a b : Bytes) → at + length a ≤ length out
     → placed (placed out at a) (at + length a) b ≡ placed out at (a ++ b)
@@ -46,7 +43,7 @@ placed-behind out at a b h =
 
 -- the bytes are as many as before
 pub put-length : {out after : Bytes} {at end : ℕ} {text : Bytes} → Put out at text after end → length after ≡ length out
-put-length {out} {after} {at} {end} {text} p = ap length (p .bytes) ∙ length-placed out at text (p .fits)
+put-length {out} {after} {at} {end} {text} p = ap length (p .bytes) ∙ placed-length out at text (p .fits)
 
 pub puts : {out first after : Bytes} {at middle end : ℕ} {a b : Bytes}
     → Put out at a first middle → Put first middle b after end → Put out at (a ++ b) after end

@@ -104,6 +104,7 @@ fn put_command(out: &mut [u8], at: usize, c: SdoCommand, payload: &[u8]) -> usiz
 {
     let mut bytes = [0u8; 1464];
     let Written::Bytes(n) = c.serialize(payload, &mut bytes) else {
+        // never: 12 bytes and the payload fit
         return at;
     };
     put_hex(out, at, part(&bytes, 0, n))

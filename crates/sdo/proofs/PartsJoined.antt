@@ -7,26 +7,20 @@ use mathlib.Core.List.{List, [], _∷_, map}
 use lib.ListN.{length, drop, length-drop, take-append-drop}
 use Rattle.laws.specs.Pick.{pick}
 use Rattle.codec.specs.Bytes.{Bytes}
-use Rattle.sdo.specs.Parts.{limit, wire, total, partLength, firstKind, firstSize}
+use Rattle.sdo.specs.Parts.{limit, wire, total, partLength}
 use Rattle.sdo.specs.PartsOf.{
   Edge,
   Part,
   cutAt,
   edgeTotals,
   joinedUp,
-  kindUpto,
   laterCount,
   laterParts,
   lengths,
   partsOf,
-  sizeUpto,
 }
 use Rattle.sdo.specs.Types.{Transfer}
 use Rattle.sdo.proofs.Wires.{wire-length}
-
--- with document 01's limit, kind and data size are those that ask gives
-pub at-the-limit : (n : ℕ) → (kindUpto limit n ≡ firstKind n) × (sizeUpto limit n ≡ firstSize n)
-at-the-limit n = (refl, refl)
 
 -- ---- the lengths
 later-lengths : (k rest : ℕ) → rest ≤ k * 1452 → lengths (laterParts k rest) ≡ rest

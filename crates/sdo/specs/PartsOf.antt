@@ -61,7 +61,8 @@ partOf o =
       size = commandOf o .«data_size»;
     }
 
--- P1 to P6: totals on both sides of each edge, and their parts
+-- P1 to P6, totals on both sides of each edge, and their parts: here too, so that a wrong limit is refused in this crate; the table of
+-- all ten is theorems' Edges
 pub record Edge : Type 0 where
   pub total : ℕ
   pub parts : List Part

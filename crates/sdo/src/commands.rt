@@ -102,7 +102,7 @@ fn command_with(
     }
 }
 
-// A command of one part that has no data size: a Nil command or a read's.
+// A command with no abort mark and no data size: the opening or a read's.
 fn plain(transaction: u8, kind: Segmentation, id: CommandId, segment: u16) -> SdoCommand
     ensures { λ r. ⌜ r ≡ commandWith transaction false kind id segment DataSize.Absent ⌝ }
 {

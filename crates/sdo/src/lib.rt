@@ -1,5 +1,5 @@
 // One node's connection as a record, and the commands that it sends (document 01, "The connection" and "Bytes"): the parts that a transfer
-// is sent in, deadlines, headers and payloads. What the calls make of a record is in the crate connection. The names are those of the
+// is sent in, deadlines, headers and payloads. What the calls make of a record is in the crates connection and exchange. The names are those of the
 // repository's client_connection.rs where it has them. The types stand here, at the root, since every check writes their names out.
 ghost use mathlib.Core.Path.{_≡_};
 ghost use Rattle.sdo.specs.Record.{newConnection, endOf};

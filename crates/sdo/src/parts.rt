@@ -1,4 +1,4 @@
-// The parts that a transfer is sent in: the one place that has the limits 1452 and 1456.
+// The parts that a transfer is sent in: the one place that cuts it, by the limits 1452 and 1456.
 ghost use mathlib.Core.Path.{_≡_};
 ghost use Prim.Native.Nat.{_-_, _<_, _≤_};
 ghost use Rattle.sdo.specs.Parts.{total, partLength, firstKind, firstSize, laterKind};

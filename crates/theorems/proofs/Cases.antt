@@ -37,10 +37,7 @@ use Rattle.theorems.specs.Types.{
 }
 use Rattle.theorems.proofs.Rooms.{put-back}
 
--- ---- a table holds its list, and a report its ends
-pub live-table : (l : List Connection) (t : ℕ) → live (tableOf l t) ≡ l
-live-table l t = take-append-seam l _
-
+-- ---- a report holds its ends
 ends-told : (l : List End) → reported (endsOf l) ≡ l
 ends-told l = take-append-seam l _
 

@@ -1,5 +1,5 @@
--- A call that answers by its checks refuses exactly when the first cause that holds is that refusal's. And what a start, a walk and a
--- reply answer, by their checks. Assumes nothing.
+-- A call that answers by its checks refuses exactly when the first cause that holds is that refusal's. And what a job's start answers,
+-- by its checks. Assumes nothing.
 use Prim.Native.Nat.{ℕ, _+_, _≤_, _<_}
 use native.Mathlib.Omega.{arith}
 use mathlib.Core.Path.{_≡_, refl, sym, _∙_, ap, subst}

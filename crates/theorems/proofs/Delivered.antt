@@ -25,7 +25,8 @@ use Rattle.theorems.specs.Types.{
   SdoClientManager as Manager,
 }
 use Rattle.theorems.proofs.Alls.{all-at, all-by}
-use Rattle.theorems.proofs.Cases.{Absent, At, live-table}
+use Rattle.manager.proofs.Turning.{live-table}
+use Rattle.theorems.proofs.Cases.{Absent, At}
 use Rattle.theorems.proofs.Delivering.{call-good}
 use Rattle.theorems.proofs.Fixing.{Same}
 use Rattle.theorems.proofs.FreeRooms.{free-nobodys, free-slotted}

@@ -2,7 +2,7 @@
 use Prim.Native.Nat.{ℕ, _≤_, _<_}
 use native.Mathlib.Omega.{arith}
 use mathlib.Core.Path.{_≡_, refl, sym, _∙_, ap, subst}
-use mathlib.Core.Bool.{true, false}
+use mathlib.Core.Bool.{true, false, true≢false}
 use mathlib.Core.List.{List, [], _∷_}
 use mathlib.Core.Logic.{inl, inr}
 use lib.Dec.{ltb, leb, eqb}
@@ -64,9 +64,6 @@ new-answer : (x : Changed) (c : Connection) (m : Manager) → answerOf x ≡ sta
 new-answer (Changed.Connection d) c m = refl
 new-answer (Changed.Refused r) c m = refl
 
-true-false : true ≡ false → ⊥
-true-false e = let z : _≡_ {A = ℕ} 0 1 = cc in absurd (omega arith)
-
 module _ (m : Manager) (store : Bytes) (sound : Sound m store) where
   module _ (node : ℕ) (job : Job) (n : Now) (long : length store ≡ storeSize) where
     -- after the store: whose job it is
@@ -81,7 +78,7 @@ module _ (m : Manager) (store : Bytes) (sound : Sound m store) where
               (new-answer (startOn m job n store (fresh m node)) (fresh m node) m)
               (told _ _
               (start-checks ⊥ (fresh m node) (numberOf m) n (roomIn store (fresh m node)) (room-length store long (freeRoom (live m)))
-              true-false (λ i z. z) job)),
+              true≢false (λ i z. z) job)),
         )
 
     target : (f : Found) → Answers (after f) (startAt (targetAt f m node) m job n store .answer)
@@ -92,7 +89,7 @@ module _ (m : Manager) (store : Bytes) (sound : Sound m store) where
               (held-answer (startOn m job n store (heldAt m k)) k m)
               (told _ _
               (start-checks (BusyAs (Found.At k) m) (heldAt m k) (numberOf m) n (roomIn store (heldAt m k))
-              (room-length store long (heldAt m k .room)) (λ i. i) (λ i z. true-false (sym i ∙ z)) job)),
+              (room-length store long (heldAt m k .room)) (λ i. i) (λ i z. true≢false (sym i ∙ z)) job)),
         )
     target Found.Absent =
         decided (λ (x : Target). Answers (after Found.Absent) (startAt x m job n store .answer)) (leb 8 (length (live m))) Target.Full _

@@ -2,7 +2,7 @@
 use Prim.Native.Nat.{ℕ, zero, suc, _+_, _*_, _≤_, _<_}
 use native.Mathlib.Omega.{arith}
 use mathlib.Core.Path.{_≡_, refl}
-use mathlib.Core.Bool.{Bool, true, false}
+use mathlib.Core.Bool.{Bool, true, false, true≢false}
 use mathlib.Core.List.{List, [], _∷_}
 use lib.Dec.{eqb}
 use lib.ListN.{length}
@@ -28,9 +28,6 @@ free-slotted l = slotted-from 8 0 l refl
 abbrev pub Nobodys : ℕ → List Connection → Type 0
 Nobodys room l = All (λ (c : Connection). c .room ≡ room → ⊥) l
 
-not-true : true ≡ false → ⊥
-not-true e = let z : _≡_ {A = ℕ} 0 1 = cc in absurd (omega arith)
-
 nobodys : (room : ℕ) (l : List Connection) → usesRoom room l ≡ false → Nobodys room l
 unfolding pick
 nobodys room [] e = tt
@@ -38,7 +35,7 @@ nobodys room (c ∷ l) e = go (eqb (c .room) room) refl e (nobodys room l)
   where
     go : (b : Bool) → eqb (c .room) room ≡ b → pick b true (usesRoom room l) ≡ false
         → (usesRoom room l ≡ false → Nobodys room l) → Nobodys room (c ∷ l)
-    go true h u r = absurd (not-true u)
+    go true h u r = absurd (true≢false u)
     go false h u r = (eqb-false (c .room) room h, r u)
 
 -- ---- how many of some rooms are used: no more than connections are held

@@ -9,7 +9,7 @@ use Rattle.codec.specs.Bytes.{Bytes}
 use Rattle.exchange.specs.Reply.{replied, replyOf, roomAfter}
 use Rattle.connection.specs.Start.{capacity, isIdle, roomWith, startDcf, startWrite}
 use Rattle.laws.proofs.Choices.{decided, either}
-use Rattle.exchange.proofs.ReplySound.{placed-length}
+use Rattle.codec.proofs.Writing.{placed-length}
 use Rattle.exchange.proofs.Storing.{StoresWithin, stores-within}
 use Rattle.manager.specs.Calls.{Job, jobRoom, loads, reads, startJob, writes}
 use Rattle.theorems.specs.Types.{

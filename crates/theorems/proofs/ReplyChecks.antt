@@ -2,7 +2,7 @@
 use Prim.Native.Nat.{ℕ, _+_, _≤_, _<_, _%_}
 use native.Mathlib.Omega.{arith}
 use mathlib.Core.Path.{_≡_, sym, _∙_}
-use mathlib.Core.Bool.{true, false}
+use mathlib.Core.Bool.{true, false, true≢false}
 use lib.Dec.{leb, eqb}
 use lib.ListN.{length}
 use borrow.Author.Tests.{eqb-true, eqb-false, leb-true, leb-false}
@@ -106,9 +106,6 @@ module _ (room : Bytes) (size : length room ≡ roomSize) where
     abbrev Cause : Outstanding → Type 0
     Cause x = Accepted x c seq cmd × Overflow
 
-    true-false : true ≡ false → ⊥
-    true-false e = let z : _≡_ {A = ℕ} 0 1 = cc in absurd (omega arith)
-
     to-reply : (x : Outstanding) → NoRoomIf (Cause x) (replyTo x seq cmd payload c room)
     to-reply Outstanding.Nothing = keeps c (λ z. z .0)
     to-reply (Outstanding.Waits o) =
@@ -117,7 +114,7 @@ module _ (room : Bytes) (size : length room ≡ roomSize) where
         (λ k. keeps _ (λ z. again (eqb-true _ _ k) (z .0 .1)))
         (λ k. decided P (eqb send ((c .«last_received_sequence_number» + 1) % 64)) _ _
         (λ j. decided P (cmd .header .«is_aborted») _ _
-        (λ i. keeps _ (λ z. true-false (sym i ∙ z .0 .2)))
+        (λ i. keeps _ (λ z. true≢false (sym i ∙ z .0 .2)))
         (λ i. same-cause Overflow (Cause (Outstanding.Waits o)) (λ p. ((eqb-true _ _ h, eqb-true _ _ j, i), p)) (λ z. z .1) _
         (in-reply (c .state) seq (cmd .header .segmentation) (cleared c send) (length payload))))
         (λ j. keeps _ (λ z. eqb-false _ _ j (z .0 .1)))))

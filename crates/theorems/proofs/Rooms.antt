@@ -9,7 +9,7 @@ use lib.ListN.{length, take, drop, length-append, length-take, length-drop, take
 use lib.Seq.{length-take-le, take-append-le, drop-append-le, drop-append-add, drop-drop, drop-at, take-append-seam}
 use borrow.Author.Tests.{ltb-true, ltb-false}
 use Rattle.codec.specs.Bytes.{Bytes, placed}
-use Rattle.exchange.proofs.ReplySound.{placed-length}
+use Rattle.codec.proofs.Writing.{placed-length}
 use Rattle.table.specs.Table.{lastRoom, roomSize, storeSize}
 pub use Rattle.theorems.specs.Sound.{Slotted}
 

@@ -1,4 +1,4 @@
--- Every call leaves a sound manager sound, with the store that it leaves; so every manager that calls made is sound. Assumes nothing.
+-- Ask, tick and a reply leave a sound manager sound, with the store that they leave. Assumes nothing.
 use Prim.Native.Nat.{ℕ, _≤_}
 use native.Mathlib.Omega.{arith}
 use mathlib.Core.Path.{_≡_, sym, _∙_, subst}

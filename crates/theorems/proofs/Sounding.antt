@@ -17,7 +17,7 @@ use Rattle.table.specs.Table.{insertIn, live, placeIn, tableOf}
 use Rattle.theorems.specs.Sound.{All, Ordered, Sane, Slotted, Sound}
 use Rattle.theorems.specs.Types.{EndFound, Outcome, SdoClientConnection as Connection, SdoClientManager as Manager}
 use Rattle.theorems.proofs.Alls.{Each}
-use Rattle.theorems.proofs.Cases.{live-table}
+use Rattle.manager.proofs.Turning.{live-table}
 use Rattle.theorems.proofs.Fixing.{Same}
 use Rattle.theorems.proofs.Ordering.{ordered-running}
 

@@ -1,4 +1,4 @@
--- `manager::SdoClientManager::next_action_time` meets its contract. The loop's invariant: `least` is the least deadline of the connections
+-- `manager::next::next_action_time` meets its contract. The loop's invariant: `least` is the least deadline of the connections
 -- from the i-th on. The measure is `i`. Assumes nothing.
 use Rattle.manager.proofs.Deadlines.{Lessening, lessening-done, lessening-more, lessening-none}
 use borrow.Author.Needs.{needs}

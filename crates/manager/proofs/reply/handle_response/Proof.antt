@@ -1,4 +1,4 @@
--- `manager::SdoClientManager::handle_response` meets its contract: the store, the node, and its connection's own answer. Assumes nothing.
+-- `manager::reply::handle_response` meets its contract: the store, the node, and its connection's own answer. Assumes nothing.
 use mathlib.Core.Path.{ap, refl, _∙_}
 use Rattle.laws.proofs.Answers.{told}
 use Rattle.laws.proofs.Picks.{is, is-not}

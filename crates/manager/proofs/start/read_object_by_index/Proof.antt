@@ -1,4 +1,4 @@
--- `manager::SdoClientManager::read_object_by_index` meets its contract: the seat, and its connection's own answer. Assumes nothing.
+-- `manager::start::read_object_by_index` meets its contract: the seat, and its connection's own answer. Assumes nothing.
 use mathlib.Core.Path.{refl}
 use Rattle.manager.specs.Calls.{reads}
 use Rattle.manager.proofs.Turning.{start-on, start-refused, target-place}

@@ -1,4 +1,4 @@
--- `connection::Outgoing::command` meets its contract: each arm is one case of its definition. Assumes nothing.
+-- `sdo::Outgoing::command` meets its contract: each arm is one case of its definition. Assumes nothing.
 use mathlib.Core.Path.{refl}
 use Rattle.sdo.specs.Commands.{commandBy}
 use Rattle.laws.proofs.Answers.{told}

@@ -1,4 +1,4 @@
--- `connection::Outgoing::sequence` meets its contract: its parts are what the callees make. Assumes nothing.
+-- `sdo::Outgoing::sequence` meets its contract: its parts are what the callees make. Assumes nothing.
 use borrow.Author.Needs.{needs}
 use Rattle.sdo.proofs.Outgoing.sequence.Statement.{statement}
 use Rattle.sdo.proofs.Outgoing.sequence.Tie as tie

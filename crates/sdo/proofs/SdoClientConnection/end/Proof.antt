@@ -1,4 +1,4 @@
--- `connection::SdoClientConnection::end` meets its contract: each arm is one case of its definition. Assumes nothing.
+-- `sdo::SdoClientConnection::end` meets its contract: each arm is one case of its definition. Assumes nothing.
 use mathlib.Core.Path.{refl}
 use Rattle.sdo.specs.Record.{endWith}
 use Rattle.laws.proofs.Answers.{told}

@@ -1,4 +1,4 @@
--- `connection::outgoing::first_part` meets its contract: its parts are what the callees make. Assumes nothing.
+-- `sdo::commands::first_part` meets its contract: its parts are what the callees make. Assumes nothing.
 use borrow.Author.Needs.{needs}
 use Rattle.sdo.proofs.commands.first_part.Statement.{statement}
 use Rattle.sdo.proofs.commands.first_part.Tie as tie

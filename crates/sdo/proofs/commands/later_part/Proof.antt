@@ -1,4 +1,4 @@
--- `connection::outgoing::later_part` meets its contract: its parts are what the callees make. Assumes nothing.
+-- `sdo::commands::later_part` meets its contract: its parts are what the callees make. Assumes nothing.
 use borrow.Author.Needs.{needs}
 use Rattle.sdo.proofs.commands.later_part.Statement.{statement}
 use Rattle.sdo.proofs.commands.later_part.Tie as tie

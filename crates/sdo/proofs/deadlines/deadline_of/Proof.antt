@@ -1,4 +1,4 @@
--- `connection::deadline::deadline_of` meets its contract: the sum fits 64 bits, or it does not. Assumes nothing.
+-- `sdo::deadlines::deadline_of` meets its contract: the sum fits 64 bits, or it does not. Assumes nothing.
 use native.Mathlib.Omega.{arith}
 use mathlib.Core.Path.{refl}
 use Rattle.laws.proofs.Picks.{beyond, within}

@@ -1,4 +1,4 @@
--- `connection::deadline::timeout_us` meets its contract: each arm is one case of `timeoutOf`. Assumes nothing.
+-- `sdo::deadlines::timeout_us` meets its contract: each arm is one case of `timeoutOf`. Assumes nothing.
 use borrow.Author.Needs.{needs}
 use Rattle.sdo.proofs.deadlines.timeout_us.Statement.{statement}
 use Rattle.sdo.proofs.deadlines.timeout_us.Tie as tie

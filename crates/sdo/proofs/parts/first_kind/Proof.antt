@@ -1,4 +1,4 @@
--- `connection::parts::first_kind` meets its contract: each return is one case of its definition. Assumes nothing.
+-- `sdo::parts::first_kind` meets its contract: each return is one case of its definition. Assumes nothing.
 use Rattle.laws.proofs.Picks.{within, beyond}
 use borrow.Author.Needs.{needs}
 use Rattle.sdo.proofs.parts.first_kind.Statement.{statement}

@@ -1,4 +1,4 @@
--- `connection::parts::first_size` meets its contract: each return is one case of `firstSize`. Assumes nothing.
+-- `sdo::parts::first_size` meets its contract: each return is one case of `firstSize`. Assumes nothing.
 use native.Mathlib.Omega.{arith}
 use mathlib.Core.Path.{ap, refl}
 use Rattle.laws.proofs.Picks.{beyond, within}

@@ -1,4 +1,4 @@
--- `connection::payload::clip` meets its contract: none, all that are left, or n of them. Assumes nothing.
+-- `sdo::payload::clip` meets its contract: none, all that are left, or n of them. Assumes nothing.
 use native.Mathlib.Omega.{arith}
 use native.Mathlib.Nat.{add-sub-cancel-left}
 use Rattle.laws.proofs.Lists.{all-left, none-left}

@@ -1,4 +1,4 @@
--- `connection::payload::write_part` meets its contract: refused before a byte is written, or both pieces. Assumes nothing.
+-- `sdo::payload::write_part` meets its contract: refused before a byte is written, or both pieces. Assumes nothing.
 use native.Mathlib.Omega.{arith}
 use Rattle.sdo.proofs.Writing.{part-refused, part-written}
 use borrow.Author.Needs.{needs}

@@ -1,4 +1,4 @@
--- `connection::payload::write_payload` meets its contract: each arm writes its payload. Assumes nothing.
+-- `sdo::payload::write_payload` meets its contract: each arm writes its payload. Assumes nothing.
 use Rattle.sdo.proofs.Writing.{none-written, octets-written, found-written}
 use borrow.Author.Needs.{needs}
 use Rattle.sdo.proofs.payload.write_payload.Statement.{statement}

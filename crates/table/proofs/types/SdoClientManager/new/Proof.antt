@@ -1,4 +1,4 @@
--- `table::SdoClientManager::new` meets its contract: no connection is a table of eight blanks. Assumes nothing.
+-- `table::types::SdoClientManager::new` meets its contract: no connection is a table of eight blanks. Assumes nothing.
 use borrow.Author.Needs.{needs}
 use Rattle.table.proofs.types.SdoClientManager.new.Statement.{statement}
 use Rattle.table.proofs.types.SdoClientManager.new.Tie as tie

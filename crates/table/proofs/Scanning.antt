@@ -9,9 +9,12 @@ use mathlib.Core.List.{[], _∷_}
 use lib.ListN.{length, take, getD}
 use lib.Seq.{slice, slice-cons, slice-empty}
 use Rattle.laws.specs.Pick.{pick}
+use Rattle.laws.proofs.Answers.{told}
 use Rattle.laws.proofs.Picks.{is, is-not, below, not-below, holds, fails}
+use Rattle.sdo.specs.Record.{endOf}
+use Rattle.table.specs.Sweep.{anyEnd, endHere}
 use Rattle.table.specs.Table.{Lived, live, findIn, freeFrom, freeRoom, oneFurther, placeIn, usesRoom}
-use Rattle.table.specs.Types.{Found, SdoClientConnection, SdoClientManager}
+use Rattle.table.specs.Types.{End, EndFound, Found, SdoClientConnection, SdoClientManager}
 use Rattle.table.proofs.Tables.{Connections}
 
 -- an answer, carried back over k connections
@@ -116,6 +119,25 @@ module _ (room : ℕ) (m : SdoClientManager) (n i : ℕ) (v : Lived m n) (g : Ro
 
   pub unused : n ≤ i → false ≡ usesRoom room (live m)
   unused l = scan-end _ _ m n i v g l (times-same i false)
+
+-- ---- any_end: whether a connection ended
+
+abbrev pub Ending : Connections → ℕ → ℕ → Type 0
+Ending = Scanning anyEnd (λ (x : Bool). x)
+
+module _ (i : ℕ) (b : SdoClientConnection) (r : EndFound) where
+  pub ending-more : (old : Connections) (n j : ℕ) → Ending old n i → j ≡ i + 1 → i < n → r ≡ endOf (getD old i b) → r ≡ EndFound.Running
+      → Ending old n j
+  ending-more old n j g e l p q =
+      scan-more _ _ old n i j b g e l (told (λ x. endHere x (anyEnd (slice (suc i) n old))) p q refl)
+
+  pub ended : (m : SdoClientManager) (n : ℕ) (x : End) → Lived m n → Ending (m .connections) n i → i < n
+      → r ≡ endOf (getD (m .connections) i b) → r ≡ EndFound.End x → true ≡ anyEnd (live m)
+  ended m n x v g l p q =
+      scan-met _ _ m n i v g b true l (told (λ x. endHere x (anyEnd (slice (suc i) n (m .connections)))) p q refl) (times-same i true)
+
+pub none-ended : (m : SdoClientManager) (n i : ℕ) → Lived m n → Ending (m .connections) n i → n ≤ i → false ≡ anyEnd (live m)
+none-ended m n i v g l = scan-end _ _ m n i v g l (times-same i false)
 
 -- ---- free_room: the first room that no connection has. What is found from the k-th on is what is found at all.
 

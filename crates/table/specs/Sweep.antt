@@ -1,5 +1,6 @@
 -- Ended connections are removed; one call reports up to eight ends, ascending (document 01, "The manager").
 use Prim.Native.Nat.{ℕ, _-_}
+use mathlib.Core.Bool.{Bool, true, false}
 use mathlib.Core.List.{List, [], _∷_, _++_}
 use lib.ListN.{length, replicate}
 use Rattle.sdo.specs.Record.{endOf}
@@ -22,6 +23,15 @@ withEnd (EndFound.End e) l = e ∷ l
 abbrev pub endsIn : List SdoClientConnection → List End
 endsIn [] = []
 endsIn (c ∷ l) = withEnd (endOf c) (endsIn l)
+
+-- whether one ended
+abbrev pub endHere : EndFound → Bool → Bool
+endHere EndFound.Running rest = rest
+endHere (EndFound.End e) rest = true
+
+abbrev pub anyEnd : List SdoClientConnection → Bool
+anyEnd [] = false
+anyEnd (c ∷ l) = endHere (endOf c) (anyEnd l)
 
 -- a list of ends in eight places, blank after it
 abbrev pub noEnd : End

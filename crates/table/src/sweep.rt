@@ -1,6 +1,6 @@
 // The sweep after a call: ended connections are removed, and their ends reported.
 ghost use mathlib.Core.Path.{_≡_};
-ghost use Rattle.table.specs.Sweep.{running, endsIn, endsOf};
+ghost use Rattle.table.specs.Sweep.{anyEnd, running, endsIn, endsOf};
 ghost use Rattle.table.specs.Table.{live, tableOf};
 use crate::held::lived;
 use crate::types::Ends;
@@ -8,6 +8,22 @@ use crate::types::SdoClientManager;
 use crate::types::blank;
 use crate::types::no_ends;
 use sdo::EndFound;
+
+// Whether a connection held has ended.
+pub fn any_end(m: SdoClientManager) -> bool
+    ensures { λ r. ⌜ r ≡ anyEnd (live m) ⌝ }
+{
+    let n = lived(m);
+    let mut i: usize = 0;
+    while i < n {
+        let c = m.connections[i];
+        if let EndFound::End(_) = c.end() {
+            return true;
+        }
+        i += 1;
+    }
+    false
+}
 
 // The manager without the connections that ended.
 pub fn swept(m: SdoClientManager) -> SdoClientManager

@@ -1,0 +1,32 @@
+-- `table::sweep::any_end` meets its contract. The loop's invariant: none of the first `i` connections has ended. The measure is what is
+-- left of the connections held. Assumes nothing.
+use Prim.Native.Nat.{_-_}
+use Rattle.table.proofs.Scanning.{Ending, ended, ending-more, none-ended, scan-none}
+use borrow.Author.Needs.{needs}
+use Rattle.table.proofs.sweep.any_end.Statement.{statement}
+use Rattle.table.proofs.sweep.any_end.Tie as tie
+
+abbrev Inv-loop : tie.InvT-loop
+Inv-loop m n i₀ i = Ending (m .connections) n i
+
+abbrev μ-loop : tie.MeasureT-loop
+μ-loop m n i₀ i = n - i
+
+pub any-end-spec : {M : Type 1} → statement M
+any-end-spec =
+    tie.close
+    (tie.spec
+    Inv-loop
+    μ-loop
+    (λ c κs. search needs)
+    (λ c. search (needs, scan-none))
+    (λ c. search needs)
+    (λ c. search needs)
+    (λ c κs. search needs)
+    (λ c. search needs)
+    (λ c. search (needs, ended))
+    (λ c. search needs)
+    (λ c. search needs)
+    (λ c. search needs)
+    (λ c. search (needs, ending-more))
+    (λ c. search (needs, none-ended)))

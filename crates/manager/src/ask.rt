@@ -10,6 +10,7 @@ ghost use Rattle.manager.specs.Calls.{
   turnOutput,
 };
 ghost use Rattle.table.specs.Table.{live};
+use crate::enter::first_of;
 use crate::room::room_in;
 use crate::types::Answer;
 use crate::types::Done;
@@ -20,6 +21,8 @@ use sdo::Outgoing;
 use sdo::SdoClientConnection;
 use sdo::payload::write_payload;
 use table::held::held_at;
+use table::held::lived;
+use table::sweep::any_end;
 use table::sweep::ends_of;
 use table::sweep::swept;
 use table::types::SdoClientManager;
@@ -51,14 +54,28 @@ pub(crate) fn nothing_done(m: SdoClientManager) -> Done
     }
 }
 
-// A call that went through: the ended connections are removed and reported.
+// A call that went through: the ended connections are removed and reported. Mostly none has ended, and then the table isn't filled anew.
 pub(crate) fn leaving(m: SdoClientManager, answer: Answer) -> Done
     ensures { λ d. ⌜ d ≡ leavingOf (live m) (m .«next_transaction_id») answer ⌝ }
 {
+    if any_end(m) {
+        return Done {
+            manager: swept(m),
+            answer,
+            ends: ends_of(m),
+        };
+    }
+    let n = lived(m);
+    let connections = first_of(m, n);
+    let manager = SdoClientManager {
+        connections,
+        count: n,
+        next_transaction_id: m.next_transaction_id,
+    };
     Done {
-        manager: swept(m),
+        manager,
         answer,
-        ends: ends_of(m),
+        ends: no_ends(),
     }
 }
 

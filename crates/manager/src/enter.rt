@@ -10,16 +10,15 @@ use table::types::SdoClientManager;
 use table::types::blank;
 
 // The first n connections held, in a table that is blank after them.
-fn first_of(m: SdoClientManager, n: usize) -> [SdoClientConnection; 8]
+pub(crate) fn first_of(m: SdoClientManager, n: usize) -> [SdoClientConnection; 8]
     requires { ⌜ n ≤ length (live m) ⌝ }
     ensures { λ r. ⌜ r ≡ padded (take n (live m)) ⌝ }
 {
-    let old = m.connections;
     let b = blank();
-    let mut out = [b; 8];
-    let mut i: usize = 0;
-    while i < n {
-        out[i] = old[i];
+    let mut out = m.connections;
+    let mut i = n;
+    while i < 8 {
+        out[i] = b;
         i += 1;
     }
     out

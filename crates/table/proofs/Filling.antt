@@ -1,18 +1,19 @@
--- Loops that fill eight places from the connections of a table. The invariant: the places hold, from the front, what the connections passed
--- come to. Assumes nothing.
-use Prim.Native.Nat.{ℕ, _+_, _≤_, _<_}
+-- Loops that fill eight places from the connections of a table, and the one that blanks the places past the first of them. The invariant of
+-- those that fill: the places hold, from the front, what the connections passed come to. Assumes nothing.
+use Prim.Native.Nat.{ℕ, suc, _+_, _-_, _≤_, _<_}
 use native.Mathlib.Numerals.{add-one}
 use native.Mathlib.Omega.{arith}
 use mathlib.Core.Path.{_≡_, refl, sym, ap, _∙_}
+use mathlib.Core.Bool.{Bool, false}
 use mathlib.Core.List.{List, [], _∷_, _++_, append-assoc, append-nil}
-use lib.ListN.{length, take, getD, set, replicate, length-append, length-take}
-use lib.Seq.{take-suc, take-take}
+use lib.ListN.{length, take, getD, set, replicate, length-append, length-set, length-take, replicate-append-replicate}
+use lib.Seq.{length-take-le, take-all, take-suc, take-suc-set, take-take}
 use Rattle.laws.proofs.Answers.{told}
 use Rattle.sdo.specs.Record.{endOf}
-use Rattle.table.specs.Sweep.{endsIn, endsOf, noEnd, running, unlessEnd, withEnd}
+use Rattle.table.specs.Sweep.{anyEnd, endHere, endsIn, endsOf, noEnd, noEnds, running, unlessEnd, withEnd}
 use Rattle.table.specs.Table.{Lived, blank, live, padded, tableOf}
 use Rattle.table.specs.Types.{End, EndFound, Ends, SdoClientConnection, SdoClientManager}
-use Rattle.table.proofs.Tables.{Connections, inEight, push}
+use Rattle.table.proofs.Tables.{Connections, copied, inEight, live-length, push}
 
 -- the first i of n connections passed, and k of eight places filled with what they come to
 pub record Filling {E : Type 0} (all : Connections → List E) (b : E) (old : Connections) (n : ℕ) (out : List E) (k i : ℕ) : Type 0 where
@@ -111,24 +112,66 @@ pub ends-all : (m : SdoClientManager) (n k i : ℕ) (out : List End) → Lived m
     → _≡_ {A = Ends} (record { list = out; count = k }) (endsOf (endsIn (live m)))
 ends-all m n k i out v g l = let e : i ≡ n = omega arith in rw (← v .front, ← e, g .filled, g .count)
 
--- ---- first_of: the connections themselves
+-- ---- nothing ended: all run on, and there is no end
 
-abbrev pub Copying : Connections → ℕ → Connections → ℕ → Type 0
-Copying old n out i = Filling (λ (l : Connections). l) blank old n out i i
+module _ (A : Type 0) (one : EndFound → A → A) (x : A) (l : Connections) where
+  none-here : (y : A) (e : EndFound) → endHere e (anyEnd l) ≡ false → (anyEnd l ≡ false → one EndFound.Running x ≡ y) → one e x ≡ y
+  none-here y EndFound.Running h so = so h
+  none-here y (EndFound.End e) h so = let z : _≡_ {A = ℕ} 0 1 = cc h in absurd (omega arith)
 
-pub copying-more : (old : Connections) (n : ℕ) (out : Connections) (i : ℕ) (d : SdoClientConnection) → Copying old n out i → i < n
-    → Copying old n (set out i (getD old i d)) (i + 1)
-copying-more old n out i d g l = fill _ blank old n out i i d g l (getD old i d) refl
+pub none-swept : (l : Connections) → anyEnd l ≡ false → running l ≡ l
+none-swept [] h = refl
+none-swept (c ∷ l) h = none-here _ (λ e r. unlessEnd e c r) (running l) l (c ∷ l) (endOf c) h (λ f. rw (none-swept l f))
+
+pub none-reported : (l : Connections) → anyEnd l ≡ false → endsIn l ≡ []
+none-reported [] h = refl
+none-reported (c ∷ l) h = none-here _ withEnd (endsIn l) l [] (endOf c) h (none-reported l)
+
+module _ (m : SdoClientManager) (any : Bool) (q : any ≡ anyEnd (live m)) (h : any ≡ false) where
+  pub unswept : (n : ℕ) (out : Connections) → Lived m n → out ≡ padded (take n (live m))
+      → _≡_ {A = SdoClientManager} (record { connections = out; count = n; «next_transaction_id» = m .«next_transaction_id» })
+      (tableOf (running (live m)) (m .«next_transaction_id»))
+  unswept n out v e =
+      let k : length (live m) ≡ n = live-length m n v in
+      rw (none-swept (live m) (sym q ∙ h), copied m n v out e, k)
+
+  pub unreported : (e : Ends) → e ≡ noEnds → e ≡ endsOf (endsIn (live m))
+  unreported e f = f ∙ ap endsOf (sym (none-reported (live m) (sym q ∙ h)))
+
+-- ---- first_of: the places from the n-th on are blank, up to the i-th
+
+pub record Blanking (old : Connections) (n : ℕ) (out : Connections) (i : ℕ) : Type 0 where
+  pub from : n ≤ i
+  pub most : i ≤ 8
+  pub all : length out ≡ 8
+  pub so : take i out ≡ take n old ++ replicate (i - n) blank
+
+pub blanking-more : (old : Connections) (n : ℕ) (out : Connections) (i : ℕ) (b : SdoClientConnection) → Blanking old n out i → i < 8
+    → b ≡ blank → Blanking old n (set out i b) (i + 1)
+blanking-more old n out i b g l e =
+    let k : suc i - n ≡ (i - n) + 1 = omega arith in
+    record {
+      from = omega arith;
+      most = omega arith;
+      all = rw length-set (g .all);
+      so =
+          rw (add-one, take-suc-set out i b (omega arith), g .so, e, append-assoc, k, ← replicate-append-replicate (i - n) 1 blank);
+    }
 
 module _ (m : SdoClientManager) (n : ℕ) (h : n ≤ length (live m)) where
   few-live : (n ≤ m .count) × (n ≤ length (m .connections))
   few-live = let e = length-take (m .count) (m .connections) in (omega arith, omega arith)
 
-  pub copying-none : (b : SdoClientConnection) → length (m .connections) ≡ 8 → b ≡ blank
-      → Copying (m .connections) n (replicate 8 b) 0
-  copying-none b a e = let w = few-live in fill-none _ _ (m .connections) n _ (omega arith) (omega arith) refl (rw e)
+  pub blanking-none : length (m .connections) ≡ 8 → Blanking (m .connections) n (m .connections) n
+  blanking-none a =
+      let w = few-live in
+      let z : n - n ≡ 0 = omega arith in
+      record { from = omega arith; most = omega arith; all = a; so = rw (z, append-nil) }
 
-  pub copied-all : (i : ℕ) (out : Connections) → Copying (m .connections) n out i → n ≤ i → out ≡ padded (take n (live m))
-  copied-all i out g l =
-      let e : i ≡ n = omega arith in
-      rw (take-take n (m .count) (m .connections) (few-live .0), ← e) (g .filled)
+  pub blanked : (i : ℕ) (out : Connections) → Blanking (m .connections) n out i → 8 ≤ i → out ≡ padded (take n (live m))
+  blanked i out g l =
+      let e : i ≡ 8 = omega arith in
+      let a : length (take n (live m)) ≡ n = length-take-le n (live m) h in
+      let t : take n (live m) ≡ take n (m .connections) = take-take n (m .count) (m .connections) (few-live .0) in
+      let o : take i out ≡ out = take-all i out (omega arith) in
+      sym o ∙ g .so ∙ rw (a, t, e)

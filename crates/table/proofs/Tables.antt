@@ -86,17 +86,18 @@ module _ (m : SdoClientManager) (n : ℕ) (v : Lived m n) where
   pub held-nowhere : (k : ℕ) (b : SdoClientConnection) → n ≤ k → b ≡ blank → b ≡ getD (live m) k blank
   held-nowhere k b h e = e ∙ sym (List·getD-eq-default (live m) blank (omega (arith, live-length)))
 
+  -- the first n are all
+  pub copied : (out : Connections) → out ≡ padded (take n (live m)) → out ≡ padded (live m)
+  copied out e = e ∙ ap padded (take-all n (live m) (omega (arith, live-length)))
+
   -- another connection in a place of those held, and past them
   module _ (place : ℕ) (c : SdoClientConnection) (number : ℕ) (out : Connections) (e : out ≡ padded (take n (live m))) where
-    copied : out ≡ padded (live m)
-    copied = e ∙ ap padded (take-all n (live m) (omega (arith, live-length)))
-
     pub replaced : place < n
         → _≡_ {A = SdoClientManager} (record { connections = set out place c; count = n; «next_transaction_id» = number })
         (tableOf (set (live m) place c) number)
     replaced h =
         let k : place < length (live m) = omega (arith, live-length) in
-        let p : set out place c ≡ padded (set (live m) place c) = rw copied (put blank (live m) c place k) in
+        let p : set out place c ≡ padded (set (live m) place c) = rw (copied out e) (put blank (live m) c place k) in
         let q : n ≡ length (set (live m) place c) = sym (length-set (live m) place c ∙ live-length) in
         rw (p, q)
 
@@ -105,7 +106,7 @@ module _ (m : SdoClientManager) (n : ℕ) (v : Lived m n) where
         (tableOf (set (live m) place c) number)
     unreplaced h =
         let k : length (live m) ≡ n = live-length in
-        rw (set-out (live m) place c (omega arith), copied, k)
+        rw (set-out (live m) place c (omega arith), copied out e, k)
 
 -- whose job a start is
 module _ (m : SdoClientManager) (node : ℕ) (f : Found) (e : f ≡ findIn node (live m)) where

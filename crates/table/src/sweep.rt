@@ -13,10 +13,11 @@ use sdo::EndFound;
 pub fn any_end(m: SdoClientManager) -> bool
     ensures { λ r. ⌜ r ≡ anyEnd (live m) ⌝ }
 {
+    let old = m.connections;
     let n = lived(m);
     let mut i: usize = 0;
     while i < n {
-        let c = m.connections[i];
+        let c = old[i];
         if let EndFound::End(_) = c.end() {
             return true;
         }

@@ -7,10 +7,10 @@ use Rattle.table.proofs.sweep.any_end.Statement.{statement}
 use Rattle.table.proofs.sweep.any_end.Tie as tie
 
 abbrev Inv-loop : tie.InvT-loop
-Inv-loop m n i₀ i = Ending (m .connections) n i
+Inv-loop old n i₀ i = Ending old n i
 
 abbrev μ-loop : tie.MeasureT-loop
-μ-loop m n i₀ i = n - i
+μ-loop old n i₀ i = n - i
 
 pub any-end-spec : {M : Type 1} → statement M
 any-end-spec =

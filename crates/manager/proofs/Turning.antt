@@ -13,7 +13,7 @@ use Rattle.codec.specs.Bytes.{Bytes}
 use Rattle.codec.specs.Writing.{bufferAfter}
 use Rattle.sdo.specs.Payload.{payloadOf}
 use Rattle.sdo.specs.Record.{newConnection}
-use Rattle.manager.specs.Calls.{refusing, leaving, roomIn, sentTo, walkedTo, walkedManager, walkedOutput, repliedAs, HasPlace, Job, jobRoom, numberOf, seatAt, seatOf, startAt, startDone, startJob, startStore, startStoreAt, startedBy, startedHeld, startedNew, takesNumber, withRoom}
+use Rattle.manager.specs.Calls.{refusing, leaving, roomIn, sentTo, walkedTo, walkedOutput, repliedAs, HasPlace, Job, jobRoom, numberOf, seatAt, seatOf, startAt, startDone, startJob, startStore, startStoreAt, startedBy, startedHeld, startedNew, takesNumber, withRoom}
 use Rattle.table.specs.Table.{blank, live, tableOf, findIn, freeRoom, storeSize, heldAt, targetAt, targetOf}
 use Rattle.manager.specs.Types.{
   Answer,
@@ -107,43 +107,44 @@ module _ (m : SdoClientManager) (t : Turn) (now : Now) (store output : Bytes) (w
   unfolding walkOf
   turn-refused r f = go W e
     where
-      go : (x : Walking) → w ≡ walkAnswer (m .connections) (drop (m .count) (m .connections)) x
+      go : (x : Walking) → w ≡ walkAnswer m x
           → (refusing m r ≡ walkedTo m x) × (output ≡ walkedOutput x store output)
       go (refused q) g = let same : r ≡ q = cc (ap (λ (v : Walk). v .walked) g) in (ap (refusing m) same, refl)
       go (through l) g = let z : _≡_ {A = ℕ} 0 1 = cc (ap (λ (v : Walk). v .walked) g) in absurd (omega arith)
       go (stopped k o l) g = let z : _≡_ {A = ℕ} 0 1 = cc (ap (λ (v : Walk). v .walked) g) in absurd (omega arith)
 
   pub turn-through : w .walked ≡ Walked.Through
-      → (leaving (live (walkedManager m w)) (m .«next_transaction_id») Answer.Nothing ≡ walkedTo m W)
+      → (leaving (live (w .manager)) (w .manager .«next_transaction_id») Answer.Nothing ≡ walkedTo m W)
       × (output ≡ walkedOutput W store output)
   unfolding walkOf
   turn-through f = go W e (walk-long t now (live m))
     where
-      go : (x : Walking) → w ≡ walkAnswer (m .connections) (drop (m .count) (m .connections)) x → Long (length (live m)) x
-          → (leaving (live (walkedManager m w)) (m .«next_transaction_id») Answer.Nothing ≡ walkedTo m x)
+      go : (x : Walking) → w ≡ walkAnswer m x → Long (length (live m)) x
+          → (leaving (live (w .manager)) (w .manager .«next_transaction_id») Answer.Nothing ≡ walkedTo m x)
           × (output ≡ walkedOutput x store output)
       go (refused q) g h = let z : _≡_ {A = ℕ} 0 1 = cc (ap (λ (v : Walk). v .walked) g) in absurd (omega arith)
       go (through l) g h = (rw (g, live-after m l h), refl)
       go (stopped k o l) g h = let z : _≡_ {A = ℕ} 0 1 = cc (ap (λ (v : Walk). v .walked) g) in absurd (omega arith)
 
   pub turn-stopped : (k : ℕ) (o : Outgoing) (c : SdoClientConnection) (after : Bytes) → w .walked ≡ Walked.Stopped k o
-      → c ≡ heldAt (walkedManager m w) k → after ≡ bufferAfter (payloadOf (roomIn store c) o) output
-      → (leaving (live (walkedManager m w)) (m .«next_transaction_id») (sentTo c o) ≡ walkedTo m W)
+      → c ≡ heldAt (w .manager) k → after ≡ bufferAfter (payloadOf (roomIn store c) o) output
+      → (leaving (live (w .manager)) (w .manager .«next_transaction_id») (sentTo c o) ≡ walkedTo m W)
       × (after ≡ walkedOutput W store output)
   unfolding walkOf
   turn-stopped k o c after f ec ea = go W e (walk-long t now (live m))
     where
-      go : (x : Walking) → w ≡ walkAnswer (m .connections) (drop (m .count) (m .connections)) x → Long (length (live m)) x
-          → (leaving (live (walkedManager m w)) (m .«next_transaction_id») (sentTo c o) ≡ walkedTo m x)
+      go : (x : Walking) → w ≡ walkAnswer m x → Long (length (live m)) x
+          → (leaving (live (w .manager)) (w .manager .«next_transaction_id») (sentTo c o) ≡ walkedTo m x)
           × (after ≡ walkedOutput x store output)
       go (refused q) g h = let z : _≡_ {A = ℕ} 0 1 = cc (ap (λ (v : Walk). v .walked) g) in absurd (omega arith)
       go (through l) g h = let z : _≡_ {A = ℕ} 0 1 = cc (ap (λ (v : Walk). v .walked) g) in absurd (omega arith)
       go (stopped j p l) g h =
           let ej : k ≡ j = cc (ap (λ (v : Walk). v .walked) g) in
           let ep : o ≡ p = cc (ap (λ (v : Walk). v .walked) g) in
-          let el : live (walkedManager m w) ≡ l = rw (g, live-after m l h) in
+          let el : live (w .manager) ≡ l = rw (g, live-after m l h) in
+          let en : w .manager .«next_transaction_id» ≡ m .«next_transaction_id» = rw g in
           let es : c ≡ getD l j blank = ec ∙ rw (el, ej) in
-          (rw (el, es, ep), ea ∙ rw (es, ep))
+          (rw (el, en, es, ep), ea ∙ rw (es, ep))
 
 -- a start for a new node is taken only below eight
 pub target-place : (m : SdoClientManager) (node : ℕ) (t : Target) → t ≡ targetOf m node → HasPlace t m

@@ -32,7 +32,6 @@ use Rattle.manager.specs.Types.{
   SequenceLayerHeader,
   Target,
   Turn,
-  Walk,
 }
 use Rattle.table.specs.Walk.{Walking, refused, through, stopped, walkList}
 
@@ -63,11 +62,6 @@ abbrev pub walkedTo : SdoClientManager → Walking → Done
 walkedTo m (refused r) = refusing m r
 walkedTo m (through l) = leaving l (m .«next_transaction_id») Answer.Nothing
 walkedTo m (stopped k o l) = leaving l (m .«next_transaction_id») (sentTo (getD l k blank) o)
-
--- the manager with the table that a walk left
-abbrev pub walkedManager : SdoClientManager → Walk → SdoClientManager
-walkedManager m w =
-    record { connections = w .connections; count = m .count; «next_transaction_id» = m .«next_transaction_id» }
 
 -- the payload fills the start of the output; the rest is unchanged
 abbrev pub walkedOutput : Walking → Bytes → Bytes → Bytes

@@ -5,7 +5,6 @@ ghost use Rattle.manager.specs.Calls.{
   nothingDone as nothingDoneOf,
   leaving as leavingOf,
   sentTo,
-  walkedManager,
   turnOf,
   turnOutput,
 };
@@ -27,7 +26,6 @@ use table::sweep::ends_of;
 use table::sweep::swept;
 use table::types::SdoClientManager;
 use table::types::Turn;
-use table::types::Walk;
 use table::types::Walked;
 use table::types::no_ends;
 use table::walk::walk;
@@ -90,7 +88,7 @@ pub fn turn(t: Turn, m: SdoClientManager, n: Now, store: &[u8], output: &mut [u8
         }
         let w = walk(m, t, n);
         let walked = w.walked;
-        let after = walked_manager(m, w);
+        let after = w.manager;
         match walked {
             Walked::Refused(r) => {
                 return refusing(m, r);
@@ -106,14 +104,6 @@ pub fn turn(t: Turn, m: SdoClientManager, n: Now, store: &[u8], output: &mut [u8
         }
     }
     refusing(m, Refusal::WrongStore)
-}
-
-// The manager with the table that a walk left.
-fn walked_manager(m: SdoClientManager, w: Walk) -> SdoClientManager
-    ensures { λ r. ⌜ r ≡ walkedManager m w ⌝ }
-{
-    let connections = w.connections;
-    SdoClientManager { connections, ..m }
 }
 
 fn sent_to(c: SdoClientConnection, o: Outgoing) -> Answer

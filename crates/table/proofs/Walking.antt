@@ -6,7 +6,8 @@ use native.Mathlib.Omega.{arith}
 use mathlib.Core.Path.{_≡_, refl, ap, _∙_}
 use mathlib.Core.List.{List, [], _∷_, _++_}
 use lib.ListN.{length, take, drop, getD, set, length-set, take-append-drop}
-use lib.Seq.{slice, slice-cons, slice-empty, take-suc-set, drop-set-lt, take-set-lt, set-split, take-take, length-take-le}
+use lib.Seq.{slice, slice-cons, slice-empty, take-suc-set, drop-set-lt, take-set-lt, set-getD, set-split, take-take, length-take-le}
+use Rattle.connection.specs.Ask.{quiet}
 use Rattle.table.specs.Table.{Lived}
 use Rattle.table.specs.Types.{Now, Outgoing, Refusal, SdoClientConnection, SdoClientManager, Sends, Step, Stepped, Turn, Walk, Walked}
 use Rattle.table.specs.Walk.{Walking, refused, through, stopped, passed, stopOr, turned, walkStep, walkList, walkOf}
@@ -91,35 +92,63 @@ module _ (t : Turn) (now : Now) (old : List SdoClientConnection) (n : ℕ) (cs :
           take-take i n cs (le-of-lt l),
         ))
 
+-- a connection that rests is passed as it is
+pub going-rest : (t : Turn) (now : Now) (old : List SdoClientConnection) (n : ℕ) (cs : List SdoClientConnection) (i : ℕ) (b : SdoClientConnection)
+    → Going t now old n cs i → i < n → turned t (getD cs i b) now ≡ quiet (getD cs i b) → Going t now old n cs (i + 1)
+going-rest t now old n cs i b g l w =
+    rw (set-getD cs i b) at
+    (going-more t now old n cs i b g l (turned t (getD cs i b) now) refl
+    (record { connection = getD cs i b; sends = Sends.Silent }) w refl)
+
 going-through : (t : Turn) (now : Now) (old : List SdoClientConnection) (n : ℕ) (cs : List SdoClientConnection)
     → Going t now old n cs n → walkList t now (take n old) ≡ through (take n cs)
 going-through t now old n cs g = g .so ∙ rw slice-empty (after-through (take n cs))
 
+-- what a walk never changes of the manager, beside the table
+pub record Kept (m after : SdoClientManager) : Type 0 where
+  pub count : after .count ≡ m .count
+  pub number : after .«next_transaction_id» ≡ m .«next_transaction_id»
+
+-- a manager with other connections
+abbrev pub withAll : SdoClientManager → List SdoClientConnection → SdoClientManager
+withAll m cs = record { connections = cs; count = m .count; «next_transaction_id» = m .«next_transaction_id» }
+
 -- what the walk returns, at each of its ways out
-module _ (m : SdoClientManager) (t : Turn) (now : Now) (n : ℕ) (v : Lived m n) (cs : List SdoClientConnection) (i : ℕ)
-    (g : Going t now (m .connections) n cs i) where
-  pub passes : n ≤ i → _≡_ {A = Walk} (record { connections = cs; walked = Walked.Through }) (walkOf m t now)
+module _ (m : SdoClientManager) (t : Turn) (now : Now) (n : ℕ) (v : Lived m n) (a : SdoClientManager) (i : ℕ) (k : Kept m a)
+    (g : Going t now (m .connections) n (a .connections) i) where
+  pub passes : n ≤ i → _≡_ {A = Walk} (record { manager = a; walked = Walked.Through }) (walkOf m t now)
   unfolding walkOf
   passes l =
       let h : i ≡ n = omega arith in
-      let g' : Going t now (m .connections) n cs n = rw h at g in
-      rw (← v .front, going-through t now (m .connections) n cs g', ← v .back, ← g .tail, take-append-drop)
+      let g' : Going t now (m .connections) n (a .connections) n = rw h at g in
+      rw (
+        ← v .front,
+        going-through t now (m .connections) n (a .connections) g',
+        ← v .back,
+        ← g .tail,
+        take-append-drop,
+        ← k .count,
+        ← k .number,
+      )
 
-  module _ (b : SdoClientConnection) (l : i < n) (a : Stepped) (e : a ≡ turned t (getD cs i b) now) where
-    pub refuses : (r : Refusal) → a ≡ Stepped.Refused r
-        → _≡_ {A = Walk} (record { connections = m .connections; walked = Walked.Refused r }) (walkOf m t now)
+  module _ (b : SdoClientConnection) (l : i < n) (x : Stepped) (e : x ≡ turned t (getD (a .connections) i b) now) where
+    pub refuses : (r : Refusal) → x ≡ Stepped.Refused r
+        → _≡_ {A = Walk} (record { manager = m; walked = Walked.Refused r }) (walkOf m t now)
     unfolding walkOf
-    refuses r w = rw (← v .front, going-refused t now (m .connections) n cs i b g l a e r w)
+    refuses r w = rw (← v .front, going-refused t now (m .connections) n (a .connections) i b g l x e r w)
 
-    pub stops : (s : Step) (o : Outgoing) → a ≡ Stepped.Went s → s .sends ≡ Sends.Gives o
-        → _≡_ {A = Walk} (record { connections = set cs i (s .connection); walked = Walked.Stopped i o }) (walkOf m t now)
+    pub stops : (s : Step) (o : Outgoing) → x ≡ Stepped.Went s → s .sends ≡ Sends.Gives o
+        → _≡_ {A = Walk} (record { manager = withAll a (set (a .connections) i (s .connection)); walked = Walked.Stopped i o })
+        (walkOf m t now)
     unfolding walkOf
     stops s o w f =
         rw (
           ← v .front,
-          going-stopped t now (m .connections) n cs i b g l a e s w o f,
+          going-stopped t now (m .connections) n (a .connections) i b g l x e s w o f,
           ← v .back,
           ← g .tail,
-          ← drop-set-lt n cs i (s .connection) l,
+          ← drop-set-lt n (a .connections) i (s .connection) l,
           take-append-drop,
+          ← k .count,
+          ← k .number,
         )

@@ -48,11 +48,19 @@ abbrev pub walkList : Turn → Now → List SdoClientConnection → Walking
 walkList t n [] = through []
 walkList t n (c ∷ rest) = walkStep (turned t c n) rest (walkList t n rest)
 
--- the same with the array: the places past the held ones are as they were
-abbrev pub walkAnswer : List SdoClientConnection → List SdoClientConnection → Walking → Walk
-walkAnswer all tail (refused r) = record { connections = all; walked = Walked.Refused r }
-walkAnswer all tail (through l) = record { connections = l ++ tail; walked = Walked.Through }
-walkAnswer all tail (stopped k o l) = record { connections = l ++ tail; walked = Walked.Stopped k o }
+-- the manager with a list in the held places: those past them, count and transaction counter are as they were
+abbrev pub withHeld : SdoClientManager → List SdoClientConnection → SdoClientManager
+withHeld m l =
+    record {
+      connections = l ++ drop (m .count) (m .connections);
+      count = m .count;
+      «next_transaction_id» = m .«next_transaction_id»;
+    }
+
+abbrev pub walkAnswer : SdoClientManager → Walking → Walk
+walkAnswer m (refused r) = record { manager = m; walked = Walked.Refused r }
+walkAnswer m (through l) = record { manager = withHeld m l; walked = Walked.Through }
+walkAnswer m (stopped k o l) = record { manager = withHeld m l; walked = Walked.Stopped k o }
 
 unfoldable pub walkOf : SdoClientManager → Turn → Now → Walk
-walkOf m t n = walkAnswer (m .connections) (drop (m .count) (m .connections)) (walkList t n (live m))
+walkOf m t n = walkAnswer m (walkList t n (live m))

@@ -48,7 +48,7 @@ pub enum Walked {
 }
 
 pub struct Walk {
-    pub connections: [SdoClientConnection; 8],
+    pub manager: SdoClientManager,
     pub walked: Walked,
 }
 

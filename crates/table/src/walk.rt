@@ -1,5 +1,8 @@
 // The walk of tick and ask: each connection in turn, in ascending order, up to the first that gives a command.
 ghost use mathlib.Core.Path.{_≡_};
+ghost use mathlib.Core.Bool.{true};
+ghost use Rattle.connection.specs.Ask.{askOf, quiet};
+ghost use Rattle.connection.specs.Tick.{tickOf};
 ghost use Rattle.table.specs.Walk.{turned as turnedOf, walkOf};
 use crate::held::lived;
 use crate::types::SdoClientManager;
@@ -8,8 +11,11 @@ use crate::types::Walk;
 use crate::types::Walked;
 use connection::ask::get_pending_request;
 use connection::tick::tick;
+use sdo::Deadline;
 use sdo::Now;
+use sdo::Outstanding;
 use sdo::SdoClientConnection;
+use sdo::SdoClientConnectionState;
 use sdo::Sends;
 use sdo::Stepped;
 
@@ -22,36 +28,82 @@ fn turned(t: Turn, c: SdoClientConnection, n: Now) -> Stepped
     }
 }
 
-// The table after the walk, and where it was left. A refusal on the way leaves the table as it was.
+// Whether an ask leaves a connection as it is and gives nothing, as its record shows at a glance: it waits for a reply, or has no job.
+fn nothing_to_ask(c: SdoClientConnection, n: Now) -> bool
+    ensures { λ r. ⌜ (r ≡ true → askOf c n ≡ quiet c) ⌝ }
+{
+    let waiting = c.waiting;
+    let outstanding = waiting.last_sent_command;
+    let state = c.state;
+    if let Outstanding::Waits(_) = outstanding {
+        return true;
+    }
+    if let SdoClientConnectionState::Idle = state {
+        return true;
+    }
+    false
+}
+
+// The same of a tick: there is no deadline, or it has not come.
+fn nothing_due(c: SdoClientConnection, n: Now) -> bool
+    ensures { λ r. ⌜ (r ≡ true → tickOf c n ≡ quiet c) ⌝ }
+{
+    let waiting = c.waiting;
+    let deadline = waiting.deadline;
+    match deadline {
+        Deadline::Never => return true,
+        Deadline::At(d) => {
+            if n.time < d {
+                return true;
+            }
+            return false;
+        }
+    }
+}
+
+// Whether the walk passes over a connection: most rest at most calls, and need not be copied out and back.
+fn rests(t: Turn, c: SdoClientConnection, n: Now) -> bool
+    ensures { λ r. ⌜ (r ≡ true → turnedOf t c n ≡ quiet c) ⌝ }
+{
+    match t {
+        Turn::Asking => nothing_to_ask(c, n),
+        Turn::Ticking => nothing_due(c, n),
+    }
+}
+
+// The manager after the walk, and where it was left. A refusal on the way leaves the manager as it was.
 pub fn walk(m: SdoClientManager, t: Turn, n: Now) -> Walk
     ensures { λ r. ⌜ r ≡ walkOf m t n ⌝ }
 {
-    let old = m.connections;
-    let mut connections = old;
+    let mut after = m;
     let held = lived(m);
     let mut i: usize = 0;
     let walked = loop {
         if held <= i {
             break Walked::Through;
         }
-        let c = connections[i];
+        if rests(t, after.connections[i], n) {
+            i += 1;
+            continue;
+        }
+        let c = after.connections[i];
         let step = match turned(t, c, n) {
             Stepped::Went(s) => s,
             Stepped::Refused(r) => {
-                connections = old;
+                after = m;
                 break Walked::Refused(r);
             }
         };
         let d = step.connection;
         let sends = step.sends;
-        connections[i] = d;
+        after.connections[i] = d;
         if let Sends::Gives(o) = sends {
             break Walked::Stopped(i, o);
         }
         i += 1;
     };
     Walk {
-        connections,
+        manager: after,
         walked,
     }
 }

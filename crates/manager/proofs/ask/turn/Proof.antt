@@ -29,7 +29,7 @@ returns-3 c =
     let a = c .before .before .before .before .before .before .before .before .before .args in
     let x = turn-through (a .m) (a .t) (a .n) (a .store .now) (a .output .now) _ (c .before .before .before .before .walk .ensures) (c .before .enum-told .given .1) in (
       is _ _ _ _ (c .before .before .before .before .before .before .if1 .taken)
-          (not-below _ _ _ _ (c .before .before .before .before .before .if2 .left) (c .leaving .ensures ∙ rw (c .before .before .before .walked-manager .ensures) (x .0))),
+          (not-below _ _ _ _ (c .before .before .before .before .before .if2 .left) (c .leaving .ensures ∙ x .0)),
       is _ _ _ _ (c .before .before .before .before .before .before .if1 .taken) (not-below _ _ _ _ (c .before .before .before .before .before .if2 .left) (x .1)),
     )
 
@@ -39,10 +39,10 @@ returns-4 c =
     let a = c .before .before .before .before .before .before .before .before .before .before .before .before .before .before .before .before .before .args in
     let x =
     turn-stopped (a .m) (a .t) (a .n) (a .store .now) (a .output .now) _ (c .before .before .before .before .before .before .before .before .before .before .before .before .walk .ensures) _ _ _ _ (c .before .before .before .before .before .before .before .before .before .walked2 .given .1)
-    (c .before .before .before .before .before .before .before .held-at .ensures ∙ rw (c .before .before .before .before .before .before .before .before .before .before .before .walked-manager .ensures)) (c .before .before .before .before .write-payload .ensures .1 ∙ rw (c .before .before .before .before .before .before .room-in .ensures)) in (
+    (c .before .before .before .before .before .before .before .held-at .ensures) (c .before .before .before .before .write-payload .ensures .1 ∙ rw (c .before .before .before .before .before .before .room-in .ensures)) in (
       is _ _ _ _ (c .before .before .before .before .before .before .before .before .before .before .before .before .before .before .if1 .taken)
           (not-below _ _ _ _ (c .before .before .before .before .before .before .before .before .before .before .before .before .before .if2 .left)
-          (c .leaving2 .ensures ∙ rw (c .before .before .before .before .before .before .before .before .before .before .before .walked-manager .ensures, c .before .sent-to .ensures) (x .0))),
+          (c .leaving2 .ensures ∙ rw (c .before .sent-to .ensures) (x .0))),
       is _ _ _ _ (c .before .before .before .before .before .before .before .before .before .before .before .before .before .before .if1 .taken) (not-below _ _ _ _ (c .before .before .before .before .before .before .before .before .before .before .before .before .before .if2 .left) (x .1)),
     )
 
@@ -56,7 +56,6 @@ turn-spec =
     (tie.spec
     (λ c κs. search needs)
     returns
-    (λ c κs. search needs)
     (λ c κs. search needs)
     (λ c. search needs)
     (λ c κs. search needs)

@@ -77,7 +77,7 @@ pub(crate) fn leaving(m: SdoClientManager, answer: Answer) -> Done
     }
 }
 
-// Ask or tick, by whose turn it is.
+// Ask or tick, by which turn it is.
 pub fn turn(t: Turn, m: SdoClientManager, n: Now, store: &[u8], output: &mut [u8]) -> Done
     ensures { λ d. ⌜ d ≡ turnOf t m n (now (store .entry)) (now (output .entry)) ⌝ }
     ensures { λ _. ⌜ now (output .exit) ≡ turnOutput t m n (now (store .entry)) (now (output .entry)) ⌝ }

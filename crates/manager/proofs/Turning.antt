@@ -1,7 +1,8 @@
--- What a walk's answer says of the walk, and of the table that it leaves; a start's target; and the table that holds a list. Assumes nothing.
-use Prim.Native.Nat.{ℕ, suc, _-_, _≤_, _<_, min}
+-- What a call of the manager comes to by its parts: a turn by the walk's answer, a reply by its connection's, a start by its target and
+-- seat. Assumes nothing.
+use Prim.Native.Nat.{ℕ, suc, _-_, min}
 use native.Mathlib.Omega.{arith}
-use mathlib.Core.Path.{_≡_, refl, sym, ap, _∙_}
+use mathlib.Core.Path.{_≡_, refl, ap, _∙_}
 use mathlib.Core.Bool.{Bool, true, false}
 use mathlib.Core.List.{List, [], _∷_, _++_, append-nil}
 use lib.Dec.{eqb, leb}
@@ -27,7 +28,6 @@ use Rattle.manager.specs.Types.{
   SdoClientManager,
   Seat,
   Sends,
-  Step,
   Stepped,
   Target,
   Turn,

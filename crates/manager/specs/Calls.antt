@@ -4,18 +4,18 @@
 use Prim.Native.Nat.{ℕ, _<_, min}
 use mathlib.Core.Bool.{Bool, true, false}
 use mathlib.Core.List.{List, [], _∷_}
-use lib.Dec.{ltb, leb, eqb}
+use lib.Dec.{ltb, eqb}
 use lib.ListN.{length, take, drop, getD, set}
 use Rattle.laws.specs.Pick.{pick}
 use Rattle.codec.specs.Bytes.{Bytes, placed}
 use Rattle.codec.specs.Writing.{bufferAfter}
 use Rattle.sdo.specs.Commands.{sequenceOf, commandOf}
 use Rattle.sdo.specs.Payload.{payloadOf}
-use Rattle.sdo.specs.Record.{newConnection, nextTransaction}
+use Rattle.sdo.specs.Record.{nextTransaction}
 use Rattle.exchange.specs.Reply.{replyOf, replied, roomAfter}
 use Rattle.connection.specs.Start.{startRead, startWrite, startDcf, roomWith}
 use Rattle.table.specs.Sweep.{running, endsIn, endsOf, noEnds}
-use Rattle.table.specs.Table.{blank, findIn, freeRoom, heldAt, insertIn, live, roomSize, roomStart, storeSize, tableOf, targetOf}
+use Rattle.table.specs.Table.{blank, findIn, heldAt, insertIn, live, roomSize, roomStart, storeSize, tableOf, targetOf}
 use Rattle.manager.specs.Types.{
   Answer,
   Changed,

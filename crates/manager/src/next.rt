@@ -1,6 +1,5 @@
 // next_action_time: when the host should call tick next.
 ghost use mathlib.Core.Path.{_≡_};
-ghost use Prim.Native.Nat.{min};
 ghost use Rattle.manager.specs.Calls.{sooner as soonerOf, leastDeadline};
 ghost use Rattle.table.specs.Table.{live};
 use sdo::Deadline;
@@ -19,7 +18,7 @@ fn sooner(a: Deadline, b: Deadline) -> Deadline
     }
 }
 
-// The least deadline of the connections held, or none. It changes with every start, reply, tick and ask.
+// The least deadline of the connections held, or none. It may change with every start, reply, tick and ask.
 pub fn next_action_time(m: SdoClientManager) -> Deadline
     ensures { λ r. ⌜ r ≡ leastDeadline (live m) ⌝ }
 {

@@ -1,6 +1,5 @@
 // Starts: a job for a node, on the connection it has or on a new one. Refusals 9, 6, 4, 5, 7, 8, in this order.
 ghost use mathlib.Core.Path.{_≡_};
-ghost use mathlib.Core.Bool.{true, false};
 ghost use Rattle.manager.specs.Calls.{
   writes,
   reads,
@@ -122,7 +121,9 @@ fn seat_of(t: Target, store: usize) -> Seat
     Seat::Refused(Refusal::WrongStore)
 }
 
-// Starts a concise DCF job for a node.
+// Starts a concise DCF job for a node. 9 for a store that isn't 32,768 bytes, 6 for a ninth node, 4 where its job is running, 5 for a DCF under
+// four bytes, 7 for one over 4,096, 8 where the deadline does not fit; then nothing has happened, but 4 and 5 take a transaction number, and 5
+// enters an Idle connection for a new node.
 pub fn start_configuration_download(
     m: SdoClientManager,
     target: u8,
@@ -141,7 +142,8 @@ pub fn start_configuration_download(
     }
 }
 
-// Starts a job that writes an object of a node.
+// Starts a job that writes an object of a node. 9, 6, 4 and 8 as of a DCF, 7 where its data and the 4 bytes ahead of them go past 4,096; then
+// nothing has happened, but 4 takes a transaction number.
 pub fn write_object_by_index(
     m: SdoClientManager,
     target: u8,
@@ -166,7 +168,7 @@ pub fn write_object_by_index(
     }
 }
 
-// Starts a job that reads an object of a node.
+// Starts a job that reads an object of a node. 9, 6, 4 and 8 as of a write.
 pub fn read_object_by_index(
     m: SdoClientManager,
     target: u8,

@@ -10,7 +10,7 @@ use lib.Seq.{slice, slice-cons, slice-empty, take-suc-set, drop-set-lt, take-set
 use Rattle.connection.specs.Ask.{quiet}
 use Rattle.table.specs.Table.{Lived}
 use Rattle.table.specs.Types.{Now, Outgoing, Refusal, SdoClientConnection, SdoClientManager, Sends, Step, Stepped, Turn, Walk, Walked}
-use Rattle.table.specs.Walk.{Walking, refused, through, stopped, passed, stopOr, turned, walkStep, walkList, walkOf}
+use Rattle.table.specs.Walk.{Walking, refused, through, stopped, passed, turned, walkStep, walkList, walkOf}
 
 -- a walk of the rest, with the connections that were passed before it
 abbrev pub after : List SdoClientConnection → Walking → Walking

@@ -1,5 +1,5 @@
 -- Ended connections are removed; one call reports up to eight ends, ascending (document 01, "The manager").
-use Prim.Native.Nat.{ℕ, _-_}
+use Prim.Native.Nat.{_-_}
 use mathlib.Core.Bool.{Bool, true, false}
 use mathlib.Core.List.{List, [], _∷_, _++_}
 use lib.ListN.{length, replicate}

@@ -10,6 +10,7 @@ use Rattle.laws.specs.Pick.{pick}
 use Rattle.sdo.specs.Record.{newConnection}
 use Rattle.table.specs.Types.{Found, SdoClientConnection, SdoClientManager, Target}
 
+-- what stands in every place past the held ones
 abbrev pub blank : SdoClientConnection
 blank = newConnection 0 0
 
@@ -54,7 +55,7 @@ insertAt k c l = take k l ++ c ∷ drop k l
 abbrev pub insertIn : SdoClientConnection → List SdoClientConnection → List SdoClientConnection
 insertIn c l = insertAt (placeIn (c .«target_node_id») l) c l
 
--- Rooms of 4,096 bytes in the store: the first that no connection has.
+-- Rooms of 4,096 bytes in a store of 32,768, and whether a connection has a room.
 abbrev pub roomSize : ℕ
 roomSize = 4096
 
@@ -72,7 +73,7 @@ lastRoom = 28672
 abbrev pub roomStart : SdoClientConnection → ℕ
 roomStart c = min (c .room) lastRoom
 
--- of the next `left` rooms from the k-th on
+-- the first room that no connection has, of the next `left` from the k-th on; the last room where all are had
 abbrev pub freeFrom : ℕ → ℕ → List SdoClientConnection → ℕ
 freeFrom zero k l = lastRoom
 freeFrom (suc left) k l = pick (usesRoom (k * roomSize) l) (freeFrom left (suc k) l) (k * roomSize)

@@ -1,20 +1,7 @@
-// The table: how many connections are held, where a node's is, which room is free, and putting one in.
+// The table: how many connections are held, where a node's is, which room is free, and whose job a start for a node
+// is.
 ghost use mathlib.Core.Path.{_≡_};
-ghost use mathlib.Core.Bool.{Bool, true, false};
-ghost use Prim.Native.Nat.{_<_, _≤_};
-ghost use lib.ListN.{length, take, set};
-ghost use Rattle.table.specs.Table.{heldAt, targetOf};
-ghost use Rattle.table.specs.Table.{
-  live,
-  Lived,
-  padded,
-  tableOf,
-  findIn,
-  placeIn,
-  insertIn,
-  usesRoom,
-  freeRoom,
-};
+ghost use Rattle.table.specs.Table.{live, Lived, findIn, placeIn, usesRoom, freeRoom, heldAt, targetOf};
 use crate::types::Found;
 use crate::types::SdoClientManager;
 use crate::types::Target;

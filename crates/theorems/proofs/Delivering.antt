@@ -31,7 +31,8 @@ use Rattle.theorems.specs.Types.{
   SequenceLayerHeader,
   Turn,
 }
-use Rattle.theorems.proofs.Cases.{Absent, At, live-table, reply-by, turn-by}
+use Rattle.manager.proofs.Turning.{live-table}
+use Rattle.theorems.proofs.Cases.{Absent, At, reply-by, turn-by}
 use Rattle.theorems.proofs.Fixing.{Same}
 use Rattle.theorems.proofs.FreeRooms.{free-nobodys, free-slotted}
 use Rattle.theorems.proofs.JobRooms.{replied-room, replied-same, started-room, started-same}

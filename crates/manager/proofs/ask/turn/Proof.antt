@@ -1,5 +1,5 @@
 -- `manager::ask::turn` meets its contract: 9, 1, then what the walk came to. Assumes nothing.
-use mathlib.Core.Path.{ap, refl, _∙_}
+use mathlib.Core.Path.{refl, _∙_}
 use Rattle.laws.proofs.Picks.{below, is, is-not, not-below}
 use Rattle.manager.specs.Calls.{turnOf, turnOutput}
 use Rattle.manager.proofs.Turning.{turn-refused, turn-stopped, turn-through}

@@ -1,5 +1,5 @@
 -- `manager::reply::handle_response` meets its contract: the store, the node, and its connection's own answer. Assumes nothing.
-use mathlib.Core.Path.{ap, refl, _∙_}
+use mathlib.Core.Path.{refl, _∙_}
 use Rattle.laws.proofs.Answers.{told}
 use Rattle.laws.proofs.Picks.{is, is-not}
 use Rattle.manager.specs.Calls.{replyAt, replyDone, replyStore, storeAt}

@@ -1,5 +1,5 @@
 -- `manager::reply::replied_as` meets its contract: each arm is one case of `repliedAs`. Assumes nothing.
-use mathlib.Core.Path.{refl, _∙_}
+use mathlib.Core.Path.{refl}
 use Rattle.laws.proofs.Answers.{told}
 use Rattle.manager.specs.Calls.{repliedAs}
 use Rattle.manager.proofs.Turning.{replied-connection}

@@ -1,5 +1,4 @@
 -- `manager::room::write_in` meets its contract: the room is lent, and put back into the store. Assumes nothing.
-use native.Mathlib.Omega.{arith}
 use Rattle.manager.proofs.Lending.{lent-room, room-back}
 use borrow.Author.Needs.{needs}
 use Rattle.manager.proofs.room.write_in.Statement.{statement}

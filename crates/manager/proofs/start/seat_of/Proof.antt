@@ -1,5 +1,5 @@
 -- `manager::start::seat_of` meets its contract: the store, then the target. Assumes nothing.
-use mathlib.Core.Path.{refl, _∙_}
+use mathlib.Core.Path.{refl}
 use Rattle.laws.proofs.Answers.{told}
 use Rattle.laws.proofs.Picks.{is, is-not}
 use Rattle.manager.specs.Calls.{seatAt, seatOf}

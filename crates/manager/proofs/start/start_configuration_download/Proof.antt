@@ -1,5 +1,4 @@
 -- `manager::start::start_configuration_download` meets its contract: the seat, and its connection's own answer. Assumes nothing.
-use mathlib.Core.Path.{refl}
 use Rattle.manager.specs.Calls.{loads}
 use Rattle.manager.proofs.Turning.{seat-sized, start-on, start-refused, target-place}
 use borrow.Author.Needs.{needs}

@@ -1,5 +1,4 @@
 -- `manager::start::write_object_by_index` meets its contract: the seat, and its connection's own answer. Assumes nothing.
-use mathlib.Core.Path.{refl}
 use Rattle.manager.specs.Calls.{writes}
 use Rattle.manager.proofs.Turning.{seat-sized, start-on, start-refused, target-place}
 use borrow.Author.Needs.{needs}

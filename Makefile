@@ -48,13 +48,9 @@ dissect:
 	@cd rust && cargo build --release --offline --quiet -p trace -p capture
 	@tests/dissect $(FILES)
 
-# Instructions of our codec and of our replay, and of the repository's. By callgrind on x86-64, where Debian's package valgrind is installed
-# if it is not there; elsewhere the replay's alone, by Debian's emulator.
+# Instructions of our codec and of our replay, and of the repository's, by callgrind (tests/valgrind).
 bench: lib
-	@if [ "$$(uname -m)" = x86_64 ]; then \
-		command -v valgrind > /dev/null || { apt-get update && apt-get install -y valgrind; } && \
-		cd rust && cargo run --release --offline --quiet -p bench; \
-	else echo "not counted on $$(uname -m): the codec's instructions"; fi
+	@cd rust && VALGRIND=../tests/valgrind ../tests/x86-64 cargo run --release --offline --quiet -p bench
 	@rt check replay 1>&2
 	@cd rust && ../tests/x86-64 cargo build --release --offline --quiet -p trace -p replay_oracle
 	@tests/bench

@@ -158,11 +158,11 @@ fn put_ends(out: &mut [u8], at: usize, ends: Ends) -> usize
     ensures { λ r. ⌜ Put (now (out .entry)) at (endsText (take (ends .count) (ends .list))) (now (out .exit)) r ⌝ }
     ensures { λ r. ⌜ r ≤ at + 136 ⌝ }
 {
-    let list = ends.list;
     let n = at_most(ends.count, 8);
     if n == 0 {
         return put_byte(out, at, b'-');
     }
+    let list = ends.list;
     let mut end = put_end(out, at, list[0]);
     let mut i: usize = 1;
     while i < n {

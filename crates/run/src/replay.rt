@@ -11,13 +11,20 @@ use codec::sequence::Written;
 use libc::STDIN_FILENO;
 use libc::STDOUT_FILENO;
 use lines::line::write_line;
+use manager::ask::turn;
 use manager::types::Answer;
+use manager::types::Done;
+use sdo::Now;
 use table::types::Ends;
 use table::types::SdoClientManager;
+use table::types::Turn;
 use table::types::no_ends;
 use trace::apply::apply;
 use trace::gather::Gathering;
 use trace::gather::gather_record;
+use trace::record::Operation;
+use trace::record::RecordRead;
+use trace::record::read_record;
 
 // How far a run is: the manager, the bytes gathered, the records read, the text not yet written, and whether the last record ended its
 // node's job Complete.
@@ -27,6 +34,12 @@ pub struct Run {
     pub number: u16,
     pub text: usize,
     pub complete: bool,
+}
+
+// A tick or an ask and its time, or any other record.
+enum TurnRead {
+    Turns(Turn, u64),
+    Other,
 }
 
 fn started() -> Run {
@@ -101,7 +114,41 @@ fn record_at(input: &[u8], at: usize) -> &[u8] {
     part(input, at, if left < 32 { left } else { 32 })
 }
 
-// One record: applied, and its line written. At most 65,535 are read.
+// What a record came to, told: its line is put into the text.
+fn after(
+    done: Done,
+    gathered: usize,
+    number: u16,
+    at: usize,
+    b: &[u8],
+    output: &[u8; 1452],
+    text: &mut [u8; 65536],
+) -> Run {
+    let manager = done.manager;
+    let answer = done.answer;
+    let ends = done.ends;
+    Run {
+        manager,
+        gathered,
+        number,
+        text: told(at, number, b, answer, ends, output, text),
+        complete: complete(ends, byte(b, 1)),
+    }
+}
+
+// Which turn a record is, and its time.
+fn turn_of(b: &[u8]) -> TurnRead {
+    let RecordRead::Record(r) = read_record(b) else {
+        return TurnRead::Other;
+    };
+    let operation = r.operation;
+    let Operation::Turns(t) = operation else {
+        return TurnRead::Other;
+    };
+    TurnRead::Turns(t, r.time)
+}
+
+// One record: applied, and its line written. At most 65,535 are read. A tick or an ask goes straight to the manager.
 fn one(
     run: Run,
     p: Parameters,
@@ -115,29 +162,25 @@ fn one(
         return run;
     }
     let number = run.number + 1;
+    let m = run.manager;
     let timeout = p.timeout;
     let retries = p.retries;
-    let before = run.manager;
-    let applied = apply(
-        before,
-        run.gathered,
-        b,
-        timeout,
-        retries,
-        store,
-        gather,
-        output,
-    );
-    let done = applied.done;
-    let manager = done.manager;
-    let answer = done.answer;
-    let ends = done.ends;
-    Run {
-        manager,
-        gathered: applied.gathered,
-        number,
-        text: told(run.text, number, b, answer, ends, output, text),
-        complete: complete(ends, byte(b, 1)),
+    let held = run.gathered;
+    match turn_of(b) {
+        TurnRead::Turns(t, time) => {
+            let when = Now {
+                time,
+                timeout,
+                retries,
+            };
+            let done = turn(t, m, when, store, output);
+            return after(done, held, number, run.text, b, output, text);
+        }
+        TurnRead::Other => {
+            let applied = apply(m, held, b, timeout, retries, store, gather, output);
+            let done = applied.done;
+            return after(done, applied.gathered, number, run.text, b, output, text);
+        }
     }
 }
 

@@ -53,12 +53,13 @@ pub enum PendingRead {
     NoRead,
 }
 
-// A transfer is a place: it is sent as index, sub-index, 0 and its data, the len bytes of the job from start on.
+// A transfer is a place: it is sent as index, sub-index, 0 and its data, the len bytes of the job from start on. The long fields stand
+// first, here and in the connection: fields lie as they are written, and a connection is copied often.
 pub struct Transfer {
-    pub index: u16,
-    pub sub_index: u8,
     pub start: usize,
     pub len: u32,
+    pub index: u16,
+    pub sub_index: u8,
 }
 
 pub enum LoadedTransfer {
@@ -127,8 +128,8 @@ pub struct Waiting {
 
 // One node's connection. `room` is where its room starts in the store; only the manager looks at it.
 pub struct SdoClientConnection {
-    pub target_node_id: u8,
     pub room: usize,
+    pub target_node_id: u8,
     pub state: SdoClientConnectionState,
     pub transaction_id: u8,
     pub send_sequence_number: u8,

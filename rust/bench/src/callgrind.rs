@@ -12,11 +12,12 @@ pub struct Cost {
     pub instructions: u64,
 }
 
-/// The costs by function, from one run with the given argument. The file stays beside the program.
+/// The costs by function, from one run with the given argument, by valgrind or what VALGRIND names. The file stays beside the program.
 pub fn costs(argument: &str) -> Result<HashMap<String, Cost>, String> {
     let program = env::current_exe().map_err(|error| error.to_string())?;
     let file = program.with_file_name("bench.callgrind");
-    let status = Command::new("valgrind")
+    let valgrind = env::var_os("VALGRIND").unwrap_or("valgrind".into());
+    let status = Command::new(valgrind)
         .args(["--tool=callgrind", "--quiet", "--dump-instr=no"])
         // Names and lines in full, so that each line can be read by itself.
         .args(["--compress-strings=no", "--compress-pos=no"])

@@ -12,10 +12,10 @@ use Rattle.lines.proofs.line.put_ends.Statement.{statement}
 use Rattle.lines.proofs.line.put_ends.Tie as tie
 
 abbrev Inv-loop : tie.InvT-loop
-Inv-loop out₀ at list n end₀ i₀ out end i = Ending out₀ end₀ list n out end i
+Inv-loop out₀ at n list end₀ i₀ out end i = Ending out₀ end₀ list n out end i
 
 abbrev μ-loop : tie.MeasureT-loop
-μ-loop out₀ at list n end₀ i₀ out end i = n - i
+μ-loop out₀ at n list end₀ i₀ out end i = n - i
 
 loop-holds : tie.Need-loop-holds Inv-loop μ-loop
 loop-holds c =
@@ -40,7 +40,7 @@ loop-again c =
 returns-2 : tie.Need-returns-2 Inv-loop μ-loop
 returns-2 c =
     let e : length (c .before .before .before .before .before .before .before .before .before .before .before .args .ends .list) ≡ 8 = search (needs, length-mapped) in
-    (ending-all _ _ (c .before .before .before .before .put-end .ensures .0) (c .before .loop .inv) (omega arith) (c .loop-test .left) e (c .before .before .before .before .before .before .before .before .at-most .ensures), omega arith)
+    (ending-all _ _ (c .before .before .before .before .put-end .ensures .0) (c .before .loop .inv) (omega arith) (c .loop-test .left) e (c .before .before .before .before .before .before .before .before .before .at-most .ensures), omega arith)
 
 pub put-ends-spec : {M : Type 1} → statement M
 put-ends-spec =

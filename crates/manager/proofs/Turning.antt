@@ -2,19 +2,19 @@
 -- seat. Assumes nothing.
 use Prim.Native.Nat.{ℕ, suc, _-_, min}
 use native.Mathlib.Omega.{arith}
-use mathlib.Core.Path.{_≡_, refl, ap, _∙_}
+use mathlib.Core.Path.{_≡_, refl, sym, ap, _∙_}
 use mathlib.Core.Bool.{Bool, true, false}
 use mathlib.Core.List.{List, [], _∷_, _++_, append-nil}
-use lib.Dec.{eqb, leb}
+use lib.Dec.{eqb, leb, ltb}
 use lib.ListN.{length, take, drop, getD, set, drop-of-length-le, length-take}
-use lib.Seq.{take-all, take-at, take-append-seam}
-use borrow.Author.Tests.{eqb-true, leb-true, leb-false}
+use lib.Seq.{set-out, take-all, take-at, take-append-seam, take-set-le, take-set-lt}
+use borrow.Author.Tests.{eqb-true, leb-true, leb-false, ltb-true, ltb-false}
 use Rattle.laws.specs.Pick.{pick}
 use Rattle.codec.specs.Bytes.{Bytes}
 use Rattle.codec.specs.Writing.{bufferAfter}
 use Rattle.sdo.specs.Payload.{payloadOf}
 use Rattle.sdo.specs.Record.{newConnection}
-use Rattle.manager.specs.Calls.{refusing, leaving, roomIn, sentTo, walkedTo, walkedOutput, repliedAs, HasPlace, Job, jobRoom, numberOf, seatAt, seatOf, startAt, startDone, startJob, startStore, startStoreAt, startedBy, startedHeld, startedNew, takesNumber, withRoom}
+use Rattle.manager.specs.Calls.{refusing, leaving, roomIn, sentTo, walkedTo, walkedOutput, repliedAs, HasPlace, Job, jobRoom, numberOf, seatAt, seatOf, startAt, startDone, startJob, startStore, startStoreAt, startedBy, startedHeld, startedNew, takesNumber, withAt, withRoom}
 use Rattle.table.specs.Table.{blank, live, tableOf, findIn, freeRoom, storeSize, heldAt, targetAt, targetOf}
 use Rattle.manager.specs.Types.{
   Answer,
@@ -40,12 +40,22 @@ use Rattle.table.specs.Walk.{Walking, refused, through, stopped, passed, stopOr
 pub live-table : (l : List SdoClientConnection) (number : ℕ) → live (tableOf l number) ≡ l
 live-table l number = take-append-seam l _
 
+-- and another connection at a place of the table is another at that place of the list
+live-with : (m : SdoClientManager) (k : ℕ) (c : SdoClientConnection) → live (withAt m k c) ≡ set (live m) k c
+live-with m k c = go (ltb k (m .count)) refl
+  where
+    go : (b : Bool) → ltb k (m .count) ≡ b → live (withAt m k c) ≡ set (live m) k c
+    go true e = take-set-lt (m .count) (m .connections) k c (ltb-true k (m .count) e)
+    go false e =
+        take-set-le (m .count) (m .connections) k c (ltb-false k (m .count) e)
+        ∙ sym (set-out (live m) k c (rw length-take (let h = ltb-false k (m .count) e in omega arith)))
+
 -- a reply that changes its connection
 pub replied-connection : (x : Changed) (place : ℕ) (m after : SdoClientManager) (c : SdoClientConnection) (d : Done)
-    → x ≡ Changed.Connection c → after ≡ tableOf (set (live m) place c) (m .«next_transaction_id»)
+    → x ≡ Changed.Connection c → after ≡ withAt m place c
     → d ≡ leaving (live after) (after .«next_transaction_id») Answer.Nothing → d ≡ repliedAs x place m
 replied-connection x place m after c d e f h =
-    h ∙ rw (f, live-table (set (live m) place c) (m .«next_transaction_id»), e)
+    h ∙ rw (f, live-with m place c, e)
 
 -- a refusal that takes a number, and one that does not
 module _ (r : Refusal) (before stepped : SdoClientManager) (takes : Bool) (d : Done) where

@@ -83,6 +83,11 @@ turnOutput t m n store output =
 
 -- ---- reply
 
+-- the manager with another connection at a place
+abbrev pub withAt : SdoClientManager → ℕ → SdoClientConnection → SdoClientManager
+withAt m k c =
+    record { connections = set (m .connections) k c; count = m .count; «next_transaction_id» = m .«next_transaction_id» }
+
 abbrev pub repliedAs : Changed → ℕ → SdoClientManager → Done
 repliedAs (Changed.Connection d) k m = leaving (set (live m) k d) (m .«next_transaction_id») Answer.Nothing
 repliedAs (Changed.Refused r) k m = refusing m r

@@ -4,7 +4,7 @@ ghost use Rattle.manager.specs.Calls.{repliedAs, replyDone, replyStore};
 use crate::ask::leaving;
 use crate::ask::nothing_done;
 use crate::ask::refusing;
-use crate::enter::replace;
+use crate::enter::with_at;
 use crate::room::reply_in;
 use crate::types::Answer;
 use crate::types::Done;
@@ -22,7 +22,7 @@ fn replied_as(a: Changed, place: usize, m: SdoClientManager) -> Done
 {
     match a {
         Changed::Connection(c) => {
-            let after = replace(m, place, c, m.next_transaction_id);
+            let after = with_at(m, place, c);
             leaving(after, Answer::Nothing)
         }
         Changed::Refused(r) => refusing(m, r),

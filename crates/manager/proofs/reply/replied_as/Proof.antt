@@ -9,7 +9,7 @@ use Rattle.manager.proofs.reply.replied_as.Tie as tie
 
 returns : tie.Need-returns
 returns c =
-    replied-connection _ _ _ _ _ _ (c .before .before .before .a .given .1) (c .before .replace .ensures) (c .leaving .ensures)
+    replied-connection _ _ _ _ _ _ (c .before .before .before .a .given .1) (c .before .with-at .ensures) (c .leaving .ensures)
 
 returns-2 : tie.Need-returns-2
 returns-2 c =

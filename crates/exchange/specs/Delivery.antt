@@ -1,6 +1,7 @@
 -- Demand 3's words: of what was sent, drop the openings (timeout repeats and aborts are tick's, and are not logged), cut at each Expedited
--- or Initiate, join the payloads. Where a job ended Complete or Cut, this is its readable entries, each once, in order, the delivered figure is their number, and it is Complete exactly when all
--- counted entries are readable. At any other moment it is a beginning of that, the last entry perhaps in part.
+-- or Initiate, join the payloads. Where a job ended Complete or Cut, this is its readable entries, each once, in order, the delivered
+-- figure is their number, and it is Complete exactly when all counted entries are readable. At any other moment it is a beginning of
+-- that, the last entry perhaps in part.
 use Prim.Native.Nat.{ℕ}
 use mathlib.Core.Path.{_≡_}
 use mathlib.Core.Bool.{Bool, true, false}

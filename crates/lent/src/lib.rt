@@ -1,6 +1,7 @@
 // The manager lent for change (document 01, "Which shape goes where"): the manager's calls for a host that keeps a manager in a place of
 // its own. Each copies what stands behind the reference, calls the manager's function by value, stores the manager that comes back, and
-// tells the host the rest. Every function is total on any manager and any slices. Refusals are those of the manager's own calls, where they are told.
+// tells the host the rest. Every function is total on any manager and any slices. Refusals are those of the manager's own
+// calls, where they are told.
 ghost use mathlib.Core.Path.{_≡_};
 ghost use Rattle.manager.specs.Calls.{
   writes,

@@ -3,15 +3,29 @@ use Prim.Native.Nat.{ℕ, min, _+_, _-_, _≤_, _<_}
 use native.Mathlib.Nat.{sub-zero, zero-add}
 use native.Mathlib.Omega.{arith}
 use mathlib.Core.Path.{_≡_, refl, sym, ap, _∙_}
+use mathlib.Core.List.{[], _∷_}
 use lib.ListN.{length, getD, take, length-take}
 use lib.Seq.{take-all}
 use Rattle.laws.proofs.Picks.{below, beyond, not-below, within}
 use Rattle.codec.specs.Bytes.{Bytes, partAt}
 use Rattle.codec.proofs.Reading.{part-inside}
-use Rattle.lines.specs.Line.{byteText, lineAnswer, lineBuffer, mostLine, nothing, operationText, sentPayload}
+use Rattle.lines.specs.Line.{
+  answerText,
+  byteText,
+  endsText,
+  lineAnswer,
+  lineBuffer,
+  lineOf,
+  mostLine,
+  newline,
+  nothing,
+  operationText,
+  recordText,
+  sentPayload,
+}
 use Rattle.lines.specs.Text.{Put}
-use Rattle.lines.specs.Types.{Refusal, SentTo, Written}
-use Rattle.lines.proofs.Putting.{put-as}
+use Rattle.lines.specs.Types.{Answer, Ends, Refusal, SentTo, Written}
+use Rattle.lines.proofs.Putting.{put-as, puts}
 
 -- the operation, where the record has none and where it has one
 module _ {out after : Bytes} {at end : ℕ} (b : Bytes) where
@@ -34,17 +48,21 @@ module _ (s : SentTo) (output : Bytes) {n : ℕ} (e : n ≡ min (s .command .hea
       let l = ap length (f ∙ g) ∙ length-take n output in
       (rw (← e) (f ∙ g), omega arith)
 
--- a line refused, and written
-module _ (out : Bytes) (at : ℕ) (line : Bytes) where
-  pub line-refused : length out < at + mostLine
+-- a line refused, and written by its four texts, one behind the other
+module _ (out : Bytes) (at : ℕ) where
+  pub line-refused : (line : Bytes) → length out < at + mostLine
       → (Written.Refused Refusal.BufferTooShort ≡ lineAnswer out at line) × (out ≡ lineBuffer out at line)
   unfolding lineAnswer lineBuffer
-  line-refused h = (beyond _ _ _ _ h refl, beyond _ _ _ _ h refl)
+  line-refused line h = (beyond _ _ _ _ h refl, beyond _ _ _ _ h refl)
 
-  pub line-written : {after : Bytes} {end : ℕ} → at + mostLine ≤ length out → Put out at line after end
-      → (Written.Bytes (end - at) ≡ lineAnswer out at line) × (after ≡ lineBuffer out at line)
-  unfolding lineAnswer lineBuffer
-  line-written {after} {end} h p =
-      let f = p .ends in
-      let e : end - at ≡ length line = omega arith in
-      (within _ _ _ _ h (ap Written.Bytes e), within _ _ _ _ h (p .bytes))
+  pub line-written : {first second third after : Bytes} {i j k end : ℕ} (number : ℕ) (b : Bytes) (answer : Answer) (ends : Ends) (output : Bytes)
+      → at + mostLine ≤ length out → Put out at (recordText number b) first i → Put first i (answerText answer output) second j
+      → Put second j (endsText (take (ends .count) (ends .list))) third k → Put third k (newline ∷ []) after end
+      → (Written.Bytes (end - at) ≡ lineAnswer out at (lineOf number b answer ends output))
+      × (after ≡ lineBuffer out at (lineOf number b answer ends output))
+  unfolding lineAnswer lineBuffer lineOf
+  line-written {end = end} number b answer ends output h p q r s =
+      let w = puts (puts (puts p q) r) s in
+      let f = w .ends in
+      let e : end - at ≡ length (lineOf number b answer ends output) = omega arith in
+      (within _ _ _ _ h (ap Written.Bytes e), within _ _ _ _ h (w .bytes))

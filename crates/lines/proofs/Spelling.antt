@@ -48,6 +48,22 @@ unfolding front pick
 front-digit zero n h l = absurd (omega arith)
 front-digit (suc k) n h l = rw (le-ltb n (power (suc k)) l, suc-sub-suc, sub-zero)
 
+-- a number of one digit has none before it
+front-single : (k n : ℕ) → n < 10 → front k n ≡ []
+unfolding front power
+front-single zero n h = refl
+front-single (suc k) n h =
+    let p = power-positive k in
+    front-skip (suc k) n (omega arith) (omega arith) ∙ rw (suc-sub-suc, sub-zero) (front-single k n h)
+
+-- and is put by that digit alone
+pub spelled-one : {out after : Bytes} {at end n d : ℕ} (places : ℕ) → n < 10 → d ≡ digit n → end ≡ at + 1 → Put out at (d ∷ []) after end
+    → Put out at (decimal places n) after end × (end ≤ at + places + 1)
+unfolding decimal
+spelled-one {n = n} places h e l p =
+    let m : n % 10 ≡ n = omega arith in
+    (rw (front-single places n h, m, ← e) p, omega arith)
+
 -- what of a number is put, and what is left from the place of power k down
 pub record Spelled (out₀ : Bytes) (at n places : ℕ) (out : Bytes) (end k p : ℕ) : Type 0 where
   pub done : Bytes
@@ -150,3 +166,9 @@ hexed-all {bytes = bytes} {i = i} s h =
     let g : drop i bytes ≡ [] = rw e (drop-length bytes) in
     let d : s .done ≡ hex bytes = sym (append-nil (s .done)) ∙ ap (λ x. s .done ++ hex x) (sym g) ∙ s .whole in
     (rw (← d) (s .put), omega arith)
+
+-- bytes in hex, one part behind the other
+pub hex-append : (a b : Bytes) → hex a ++ hex b ≡ hex (a ++ b)
+unfolding hex
+hex-append [] b = refl
+hex-append (x ∷ a) b = ap (λ l. getD hexDigits (x / 16) 0 ∷ getD hexDigits (x % 16) 0 ∷ l) (hex-append a b)

@@ -20,6 +20,7 @@ ghost use Rattle.lines.specs.Line.{
 ghost use Rattle.codec.specs.Command.{commandBytes};
 ghost use Rattle.codec.specs.Sequence.{sequenceBytes};
 ghost use Rattle.lines.specs.Text.{Put, hex};
+ghost use Rattle.table.specs.Sweep.{noEnds};
 use crate::text::put_byte;
 use crate::text::put_decimal;
 use crate::text::put_hex;
@@ -102,12 +103,14 @@ fn put_command(out: &mut [u8], at: usize, c: SdoCommand, payload: &[u8]) -> usiz
     ensures { λ r. ⌜ Put (now (out .entry)) at (hex (commandBytes c (now (payload .entry)))) (now (out .exit)) r ⌝ }
     ensures { λ r. ⌜ r ≤ at + 2928 ⌝ }
 {
-    let mut bytes = [0u8; 1464];
-    let Written::Bytes(n) = c.serialize(payload, &mut bytes) else {
-        // never: 12 bytes and the payload fit
+    let none = [0u8; 0];
+    let mut head = [0u8; 12];
+    let Written::Bytes(n) = c.serialize(&none, &mut head) else {
+        // never: 12 bytes fit
         return at;
     };
-    put_hex(out, at, part(&bytes, 0, n))
+    let end = put_hex(out, at, part(&head, 0, n));
+    put_hex(out, end, payload)
 }
 
 fn payload_of(s: SentTo, output: &[u8]) -> &[u8]
@@ -222,6 +225,31 @@ pub fn write_line(
     let first = put_record(out, at, number, b);
     let second = put_answer(out, first, answer, output);
     let third = put_ends(out, second, ends);
+    let end = put_byte(out, third, b'\n');
+    Written::Bytes(end - at)
+}
+
+// Writes the line of a record by which nothing ended, as write_line does.
+pub fn write_quiet_line(
+    out: &mut [u8],
+    at: usize,
+    number: u16,
+    b: &[u8],
+    answer: Answer,
+    output: &[u8],
+) -> Written
+    ensures { λ r. ⌜ r ≡ lineAnswer (now (out .entry)) at (lineOf number (now (b .entry)) answer noEnds (now (output .entry))) ⌝ }
+    ensures { λ _. ⌜ now (out .exit) ≡ lineBuffer (now (out .entry)) at (lineOf number (now (b .entry)) answer noEnds (now (output .entry))) ⌝ }
+{
+    if out.len() < at {
+        return Written::Refused(Refusal::BufferTooShort);
+    }
+    if out.len() - at < 4096 {
+        return Written::Refused(Refusal::BufferTooShort);
+    }
+    let first = put_record(out, at, number, b);
+    let second = put_answer(out, first, answer, output);
+    let third = put_byte(out, second, b'-');
     let end = put_byte(out, third, b'\n');
     Written::Bytes(end - at)
 }

@@ -47,6 +47,10 @@ pub(crate) fn put_decimal(out: &mut [u8], at: usize, n: u32, places: usize, p: u
     ensures { λ r. ⌜ Put (now (out .entry)) at (decimal places n) (now (out .exit)) r ⌝ }
     ensures { λ r. ⌜ r ≤ at + places + 1 ⌝ }
 {
+    if n < 10 {
+        // one digit needs no loop
+        return put_byte(out, at, digit_of(n));
+    }
     let mut end = at;
     let mut k = places;
     let mut rest = p;

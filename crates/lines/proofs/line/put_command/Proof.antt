@@ -1,45 +1,49 @@
--- `lines::line::put_command` meets its contract: a command never lacks room, and its bytes are put in hex. Assumes nothing.
+-- `lines::line::put_command` meets its contract: a command's head never lacks room, and it is put in hex and the payload behind it. Assumes
+-- nothing.
 use native.Mathlib.Omega.{arith}
 use mathlib.Core.Path.{refl, ap}
 use lib.ListN.{length}
-use Rattle.lines.proofs.Buffers.{command-short, never-refused, part-sent}
-use Rattle.lines.proofs.Putting.{put-as}
-use Rattle.lines.specs.Text.{hex}
+use Rattle.lines.proofs.Buffers.{command-put, head-most, never-refused, part-sent}
+use Rattle.lines.proofs.Putting.{put-length}
 use borrow.Author.Needs.{needs}
 use Rattle.lines.proofs.line.put_command.Statement.{statement}
 use Rattle.lines.proofs.line.put_command.Tie as tie
 
-returns : tie.Need-returns
-returns c =
-    let a = c .before .before .before .before .before .before .before .args in
-    absurd (never-refused (a .c) (a .payload .now) _ (c .before .before .before .before .before .before .before .pre .1) refl (c .before .before .before .serialize .ensures .0) (c .enum-told .given .1))
-
 put-hex-requires : tie.Need-put-hex-requires
 put-hex-requires c κs =
-    let a = c .before .before .before .before .before .before .before .before .before .before .before .args in
-    let l = command-short (a .c) (a .payload .now) (a .payload .now) (c .before .before .before .before .before .before .before .before .before .before .before .pre .1) in
-    let e = ap length (part-sent (a .c) (a .payload .now) _ (c .before .before .before .before .before .before .before .before .before .before .before .pre .1) refl (c .before .before .before .before .before .before .before .serialize .ensures .0) (c .before .before .before .before .n .given .1) (c .before .before .before .before .before .before .before .serialize .ensures .1) (c .part .ensures)) in
+    let l = head-most (c .before .before .before .before .before .before .before .before .before .before .before .before .args .c) in
+    let e = ap length (part-sent _ _ refl (c .before .before .before .before .before .before .before .serialize .ensures .0) (c .before .before .before .before .n .given .1) (c .before .before .before .before .before .before .before .serialize .ensures .1) (c .part .ensures)) in
+    omega arith
+
+put-hex-requires-2 : tie.Need-put-hex-requires-2
+put-hex-requires-2 c κs =
+    let p = c .before .before .before .before in
+    let l = head-most (p .before .before .before .before .before .before .before .before .before .before .before .before .args .c) in
+    let e = ap length (part-sent _ _ refl (p .before .before .before .before .before .before .before .serialize .ensures .0) (p .before .before .before .before .n .given .1) (p .before .before .before .before .before .before .before .serialize .ensures .1) (p .part .ensures)) in
+    let m = put-length (c .before .before .before .put-hex .ensures .0) in
     omega arith
 
 returns-2 : tie.Need-returns-2
 returns-2 c =
-    let a = c .before .before .before .before .before .before .before .before .before .before .before .before .before .before .args in
-    let l = command-short (a .c) (a .payload .now) (a .payload .now) (c .before .before .before .before .before .before .before .before .before .before .before .before .before .before .pre .1) in
-    let p = part-sent (a .c) (a .payload .now) _ (c .before .before .before .before .before .before .before .before .before .before .before .before .before .before .pre .1) refl (c .before .before .before .before .before .before .before .before .before .before .serialize .ensures .0) (c .before .before .before .before .before .before .before .n .given .1) (c .before .before .before .before .before .before .before .before .before .before .serialize .ensures .1) (c .before .before .before .part .ensures) in
-    let e = ap length p in
-    (put-as (ap hex p) (c .before .before .put-hex .ensures .0), omega arith)
+    let p = c .before .before .before .before .before .before .before in
+    let l = head-most (p .before .before .before .before .before .before .before .before .before .before .before .before .args .c) in
+    let h = part-sent _ _ refl (p .before .before .before .before .before .before .before .serialize .ensures .0) (p .before .before .before .before .n .given .1) (p .before .before .before .before .before .before .before .serialize .ensures .1) (p .part .ensures) in
+    let e = ap length h in
+    (command-put _ _ h (c .before .before .before .before .before .before .put-hex .ensures .0) (c .before .before .put-hex2 .ensures .0), omega arith)
 
 pub put-command-spec : {M : Type 1} → statement M
 put-command-spec =
     tie.close
     (tie.spec
     (λ c. search needs)
+    (λ c. search needs)
     (λ c κs. search needs)
     (λ c. search needs)
     (λ c. search needs)
-    returns
+    (λ c. absurd (never-refused _ _ refl (c .before .before .before .serialize .ensures .0) (c .enum-told .given .1)))
     (λ c. search needs)
     (λ c κs. search needs)
     put-hex-requires
+    put-hex-requires-2
     (λ c. search needs)
     returns-2)

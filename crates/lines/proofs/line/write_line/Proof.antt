@@ -1,17 +1,9 @@
 -- `lines::line::write_line` meets its contract: refused without room, and else four texts, one behind the other. Assumes nothing.
 use native.Mathlib.Omega.{arith}
-use Rattle.lines.specs.Line.{lineOf}
 use Rattle.lines.proofs.Lines.{line-refused, line-written}
-use Rattle.lines.proofs.Putting.{puts}
 use borrow.Author.Needs.{needs}
 use Rattle.lines.proofs.line.write_line.Statement.{statement}
 use Rattle.lines.proofs.line.write_line.Tie as tie
-
-returns-3 : tie.Need-returns-3
-unfolding lineOf
-returns-3 c =
-    line-written _ _ _ (omega arith)
-    (puts (puts (puts (c .before .before .before .before .before .before .before .before .before .before .before .before .before .before .put-record .ensures .0) (c .before .before .before .before .before .before .before .before .before .before .put-answer .ensures .0)) (c .before .before .before .before .before .before .put-ends .ensures .0)) (c .before .before .put-byte .ensures .0))
 
 pub write-line-spec : {M : Type 1} → statement M
 write-line-spec =
@@ -26,4 +18,4 @@ write-line-spec =
     (λ c κs. search needs)
     (λ c. search needs)
     (λ c. search needs)
-    returns-3)
+    (λ c. line-written _ _ _ _ _ _ _ (omega arith) (c .before .before .before .before .before .before .before .before .before .before .before .before .before .before .put-record .ensures .0) (c .before .before .before .before .before .before .before .before .before .before .put-answer .ensures .0) (c .before .before .before .before .before .before .put-ends .ensures .0) (c .before .before .put-byte .ensures .0)))

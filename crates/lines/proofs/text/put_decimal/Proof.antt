@@ -3,7 +3,7 @@
 use native.Mathlib.Omega.{arith}
 use mathlib.Core.Path.{_∙_}
 use Rattle.lines.proofs.Putting.{put-length}
-use Rattle.lines.proofs.Spelling.{Spelled, power-positive, spelled-all, spelled-digit, spelled-none, spelled-skip}
+use Rattle.lines.proofs.Spelling.{Spelled, power-positive, spelled-all, spelled-digit, spelled-none, spelled-one, spelled-skip}
 use borrow.Author.Needs.{needs}
 use Rattle.lines.proofs.text.put_decimal.Statement.{statement}
 use Rattle.lines.proofs.text.put_decimal.Tie as tie
@@ -21,16 +21,16 @@ div-digit-of c =
     let e = l .inv .powered in
     omega arith
 
-put-byte-requires : tie.Need-put-byte-requires Inv-loop μ-loop
-put-byte-requires c κs =
+put-byte-requires-2 : tie.Need-put-byte-requires-2 Inv-loop μ-loop
+put-byte-requires-2 c κs =
     let s = c .before .before .before .before .loop .inv in
     let m = s .short in
     let f = s .put .ends in
     let l = put-length (s .put) in
     omega arith
 
-put-byte-requires-2 : tie.Need-put-byte-requires-2 Inv-loop μ-loop
-put-byte-requires-2 c κs =
+put-byte-requires-3 : tie.Need-put-byte-requires-3 Inv-loop μ-loop
+put-byte-requires-3 c κs =
     let s = c .before .before .before .loop .inv in
     let m = s .short in
     let f = s .put .ends in
@@ -40,7 +40,7 @@ put-byte-requires-2 c κs =
 loop-again-2 : tie.Need-loop-again-2 Inv-loop μ-loop
 loop-again-2 c =
     let l = c .before .before .before .before .before .before .before .loop in
-    spelled-digit (l .inv) (omega arith) (omega arith) (c .before .before .before .digit-of .ensures) (c .before .before .put-byte .ensures .0)
+    spelled-digit (l .inv) (omega arith) (omega arith) (c .before .before .before .digit-of2 .ensures) (c .before .before .put-byte2 .ensures .0)
 
 pub put-decimal-spec : {M : Type 1} → statement M
 put-decimal-spec =
@@ -48,16 +48,20 @@ put-decimal-spec =
     (tie.spec
     Inv-loop
     μ-loop
-    (λ c. spelled-none _ _ _ _ _ (omega arith) (c .before .pre .1))
+    (λ c κs. search needs)
+    (λ c κs. search needs)
+    (λ c. search needs)
+    (λ c. spelled-one _ (omega arith) (c .before .before .before .digit-of .ensures) (c .before .before .put-byte .ensures .1) (c .before .before .put-byte .ensures .0))
+    (λ c. spelled-none _ _ _ _ _ (omega arith) (c .before .before .pre .1))
     (λ c. search needs)
     (λ c. search needs)
     (λ c. spelled-skip (c .before .before .loop .inv) (omega arith) (omega arith))
     div-digit-of
     (λ c κs. search needs)
-    put-byte-requires
+    put-byte-requires-2
     (λ c. search needs)
     loop-again-2
     (λ c κs. search needs)
-    put-byte-requires-2
-    (λ c. put-length (c .before .before .put-byte2 .ensures .0) ∙ put-length (c .before .before .before .before .before .before .loop .inv .put))
-    (λ c. spelled-all (c .before .before .before .before .before .before .loop .inv) (omega arith) (c .before .before .before .digit-of2 .ensures) (c .before .before .put-byte2 .ensures .0)))
+    put-byte-requires-3
+    (λ c. put-length (c .before .before .put-byte3 .ensures .0) ∙ put-length (c .before .before .before .before .before .before .loop .inv .put))
+    (λ c. spelled-all (c .before .before .before .before .before .before .loop .inv) (omega arith) (c .before .before .before .digit-of3 .ensures) (c .before .before .put-byte3 .ensures .0)))

@@ -12,9 +12,10 @@ use Rattle.laws.specs.Pick.{pick}
 use Rattle.laws.proofs.Answers.{told}
 use Rattle.laws.proofs.Picks.{is, is-not, below, not-below, holds, fails}
 use Rattle.sdo.specs.Record.{endOf}
+use Rattle.table.specs.Resting.{dueIn, restsOf}
 use Rattle.table.specs.Sweep.{anyEnd, endHere}
 use Rattle.table.specs.Table.{Lived, live, findIn, freeFrom, freeRoom, oneFurther, placeIn, usesRoom}
-use Rattle.table.specs.Types.{End, EndFound, Found, SdoClientConnection, SdoClientManager}
+use Rattle.table.specs.Types.{End, EndFound, Found, Now, SdoClientConnection, SdoClientManager, Turn}
 use Rattle.table.proofs.Tables.{Connections}
 
 -- an answer, carried back over k connections
@@ -138,6 +139,24 @@ module _ (i : ℕ) (b : SdoClientConnection) (r : EndFound) where
 
 pub none-ended : (m : SdoClientManager) (n i : ℕ) → Lived m n → Ending (m .connections) n i → n ≤ i → false ≡ anyEnd (live m)
 none-ended m n i v g l = scan-end _ _ m n i v g l (times-same i false)
+
+-- ---- due: the first connection that does not rest
+
+module _ (t : Turn) (when : Now) where
+  abbrev pub Resting : Connections → ℕ → ℕ → Type 0
+  Resting = Scanning (dueIn t when) oneFurther
+
+  module _ (i : ℕ) (b : SdoClientConnection) (r : Bool) where
+    pub resting-more : (old : Connections) (n j : ℕ) → Resting old n i → j ≡ i + 1 → i < n → r ≡ restsOf t (getD old i b) when → r ≡ true
+        → Resting old n j
+    resting-more old n j g e l p q = scan-more _ _ old n i j b g e l (holds _ _ p q refl)
+
+    pub due-here : (m : SdoClientManager) (n : ℕ) → Lived m n → Resting (m .connections) n i → i < n
+        → r ≡ restsOf t (getD (m .connections) i b) when → r ≡ false → Found.At i ≡ dueIn t when (live m)
+    due-here m n v g l p q = scan-met _ _ m n i v g b _ l (fails _ _ p q refl) (times-at i)
+
+  pub none-due : (m : SdoClientManager) (n i : ℕ) → Lived m n → Resting (m .connections) n i → n ≤ i → Found.Absent ≡ dueIn t when (live m)
+  none-due m n i v g l = scan-end _ _ m n i v g l (times-absent i)
 
 -- ---- free_room: the first room that no connection has. What is found from the k-th on is what is found at all.
 

@@ -20,7 +20,8 @@ use lib.Seq.{getD-take, length-take-le, set-append-left, set-at, set-out, take-a
 use Rattle.laws.proofs.Answers.{told}
 use Rattle.laws.proofs.Picks.{beyond, within}
 use Rattle.sdo.specs.Record.{newConnection}
-use Rattle.table.specs.Table.{heldAt, targetAt, targetOf}
+use Rattle.table.proofs.Places.{found-held}
+use Rattle.table.specs.Table.{targetAt, targetOf, connectionAt}
 use Rattle.table.specs.Table.{Lived, blank, findIn, freeRoom, live, padded, tableOf}
 use Rattle.table.specs.Types.{Found, SdoClientConnection, SdoClientManager, Target}
 
@@ -36,6 +37,27 @@ any-default : {A : Type 0} (l : List A) (i : ℕ) (a b : A) → i < length l →
 any-default [] i a b h = absurd (omega arith)
 any-default (x ∷ l) zero a b h = refl
 any-default (x ∷ l) (suc i) a b h = any-default l i a b (le-of-suc-le-suc h)
+
+-- the element at a place of eight, by its number, and past them
+pub standing : (l : List SdoClientConnection) (place k : ℕ) (b : SdoClientConnection) → place ≡ k → length l ≡ 8 → k < 8
+    → getD l k b ≡ getD l place blank
+standing l place k b e n h = rw e (any-default l k b blank (omega (arith, n)))
+
+-- a number that is none of eight
+pub past-eight : (n : ℕ) → (n ≡ 0 → ⊥) → (n ≡ 1 → ⊥) → (n ≡ 2 → ⊥) → (n ≡ 3 → ⊥) → (n ≡ 4 → ⊥) → (n ≡ 5 → ⊥) → (n ≡ 6 → ⊥) → (n ≡ 7 → ⊥) → 8 ≤ n
+past-eight zero h0 h1 h2 h3 h4 h5 h6 h7 = absurd (h0 refl)
+past-eight (suc zero) h0 h1 h2 h3 h4 h5 h6 h7 = absurd (h1 refl)
+past-eight (suc (suc zero)) h0 h1 h2 h3 h4 h5 h6 h7 = absurd (h2 refl)
+past-eight (suc (suc (suc zero))) h0 h1 h2 h3 h4 h5 h6 h7 = absurd (h3 refl)
+past-eight (suc (suc (suc (suc zero)))) h0 h1 h2 h3 h4 h5 h6 h7 = absurd (h4 refl)
+past-eight (suc (suc (suc (suc (suc zero))))) h0 h1 h2 h3 h4 h5 h6 h7 = absurd (h5 refl)
+past-eight (suc (suc (suc (suc (suc (suc zero)))))) h0 h1 h2 h3 h4 h5 h6 h7 = absurd (h6 refl)
+past-eight (suc (suc (suc (suc (suc (suc (suc zero))))))) h0 h1 h2 h3 h4 h5 h6 h7 = absurd (h7 refl)
+past-eight (suc (suc (suc (suc (suc (suc (suc (suc n)))))))) h0 h1 h2 h3 h4 h5 h6 h7 = omega arith
+
+pub standing-past : (l : List SdoClientConnection) (place : ℕ) (b : SdoClientConnection) → length l ≡ 8 → 8 ≤ place → b ≡ blank
+    → b ≡ getD l place blank
+standing-past l place b n h e = e ∙ sym (List·getD-eq-default l blank (omega (arith, n)))
 
 -- a list in eight places, with b after it
 abbrev pub inEight : {A : Type 0} → A → List A → List A
@@ -110,9 +132,9 @@ module _ (m : SdoClientManager) (n : ℕ) (v : Lived m n) where
 
 -- whose job a start is
 module _ (m : SdoClientManager) (node : ℕ) (f : Found) (e : f ≡ findIn node (live m)) where
-  pub target-held : (k : ℕ) (c : SdoClientConnection) → f ≡ Found.At k → c ≡ heldAt m k → Target.Held k c ≡ targetOf m node
+  pub target-held : (k : ℕ) (c : SdoClientConnection) → f ≡ Found.At k → c ≡ connectionAt m k → Target.Held k c ≡ targetOf m node
   unfolding targetOf
-  target-held k c g h = told (λ x. targetAt x m node) e g (ap (Target.Held k) h)
+  target-held k c g h = told (λ x. targetAt x m node) e g (ap (Target.Held k) (h ∙ found-held m k f node e g))
 
   pub target-full : (n : ℕ) → f ≡ Found.Absent → Lived m n → n ≡ 8 → Target.Full ≡ targetOf m node
   unfolding targetOf

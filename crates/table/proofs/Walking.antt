@@ -3,13 +3,15 @@ use Prim.Native.Nat.{ℕ, suc, _+_, _≤_, _<_}
 use native.Mathlib.Nat.{lt-of-lt-of-le, le-of-lt}
 use native.Mathlib.Numerals.{add-one}
 use native.Mathlib.Omega.{arith}
-use mathlib.Core.Path.{_≡_, refl, ap, _∙_}
+use mathlib.Core.Path.{_≡_, refl, sym, ap, _∙_}
+use mathlib.Core.Bool.{Bool, true}
 use mathlib.Core.List.{List, [], _∷_, _++_}
 use lib.ListN.{length, take, drop, getD, set, length-set, take-append-drop}
 use lib.Seq.{slice, slice-cons, slice-empty, take-suc-set, drop-set-lt, take-set-lt, set-getD, set-split, take-take, length-take-le}
-use Rattle.connection.specs.Ask.{quiet}
+use Rattle.table.specs.Resting.{restsOf}
 use Rattle.table.specs.Table.{Lived}
 use Rattle.table.specs.Types.{Now, Outgoing, Refusal, SdoClientConnection, SdoClientManager, Sends, Step, Stepped, Turn, Walk, Walked}
+use Rattle.table.proofs.Resting.{rests-quiet}
 use Rattle.table.specs.Walk.{Walking, refused, through, stopped, passed, turned, walkStep, walkList, walkOf}
 
 -- a walk of the rest, with the connections that were passed before it
@@ -94,11 +96,11 @@ module _ (t : Turn) (now : Now) (old : List SdoClientConnection) (n : ℕ) (cs :
 
 -- a connection that rests is passed as it is
 pub going-rest : (t : Turn) (now : Now) (old : List SdoClientConnection) (n : ℕ) (cs : List SdoClientConnection) (i : ℕ) (b : SdoClientConnection)
-    → Going t now old n cs i → i < n → turned t (getD cs i b) now ≡ quiet (getD cs i b) → Going t now old n cs (i + 1)
-going-rest t now old n cs i b g l w =
+    (r : Bool) → Going t now old n cs i → i < n → r ≡ restsOf t (getD cs i b) now → r ≡ true → Going t now old n cs (i + 1)
+going-rest t now old n cs i b r g l p q =
     rw (set-getD cs i b) at
     (going-more t now old n cs i b g l (turned t (getD cs i b) now) refl
-    (record { connection = getD cs i b; sends = Sends.Silent }) w refl)
+    (record { connection = getD cs i b; sends = Sends.Silent }) (rests-quiet t (getD cs i b) now (sym p ∙ q)) refl)
 
 going-through : (t : Turn) (now : Now) (old : List SdoClientConnection) (n : ℕ) (cs : List SdoClientConnection)
     → Going t now old n cs n → walkList t now (take n old) ≡ through (take n cs)

@@ -1,3 +1,4 @@
+pub mod Resting
 pub mod Sweep
 pub mod Table
 pub mod Types

@@ -81,7 +81,10 @@ freeFrom (suc left) k l = pick (usesRoom (k * roomSize) l) (freeFrom left (suc k
 unfoldable pub freeRoom : List SdoClientConnection → ℕ
 freeRoom l = freeFrom 8 0 l
 
--- the connection at a place of the table
+-- the connection at a place of the array, and at a place of those held
+abbrev pub connectionAt : SdoClientManager → ℕ → SdoClientConnection
+connectionAt m k = getD (m .connections) k blank
+
 abbrev pub heldAt : SdoClientManager → ℕ → SdoClientConnection
 heldAt m k = getD (live m) k blank
 

@@ -1,11 +1,14 @@
 -- The types that the table's definitions speak of, under one name.
 pub use Rattle.codec.specs.declared.refusal.Refusal.{Refusal}
+pub use Rattle.sdo.specs.declared.Deadline.{Deadline}
 pub use Rattle.sdo.specs.declared.End.{End}
 pub use Rattle.sdo.specs.declared.EndFound.{EndFound}
 pub use Rattle.sdo.specs.declared.Now.{Now}
 pub use Rattle.sdo.specs.declared.Outgoing.{Outgoing}
+pub use Rattle.sdo.specs.declared.Outstanding.{Outstanding}
 pub use Rattle.sdo.specs.declared.Reason.{Reason}
 pub use Rattle.sdo.specs.declared.SdoClientConnection.{SdoClientConnection}
+pub use Rattle.sdo.specs.declared.SdoClientConnectionState.{SdoClientConnectionState}
 pub use Rattle.sdo.specs.declared.Sends.{Sends}
 pub use Rattle.sdo.specs.declared.Step.{Step}
 pub use Rattle.sdo.specs.declared.Stepped.{Stepped}

@@ -1,7 +1,7 @@
 // The table: how many connections are held, where a node's is, which room is free, and whose job a start for a node
 // is.
 ghost use mathlib.Core.Path.{_≡_};
-ghost use Rattle.table.specs.Table.{live, Lived, findIn, placeIn, usesRoom, freeRoom, heldAt, targetOf};
+ghost use Rattle.table.specs.Table.{live, Lived, findIn, placeIn, usesRoom, freeRoom, connectionAt, heldAt, targetOf};
 use crate::types::Found;
 use crate::types::SdoClientManager;
 use crate::types::Target;
@@ -22,7 +22,10 @@ pub fn find(m: SdoClientManager, node: u8) -> Found
     let old = m.connections;
     let n = lived(m);
     let mut i: usize = 0;
-    while i < n {
+    while i < 8 {
+        if n <= i {
+            return Found::Absent;
+        }
         if old[i].target_node_id == node {
             return Found::At(i);
         }
@@ -38,7 +41,10 @@ pub fn place_of(m: SdoClientManager, node: u8) -> usize
     let old = m.connections;
     let n = lived(m);
     let mut i: usize = 0;
-    while i < n {
+    while i < 8 {
+        if n <= i {
+            return n;
+        }
         if node < old[i].target_node_id {
             return i;
         }
@@ -54,7 +60,10 @@ fn uses_room(m: SdoClientManager, room: usize) -> bool
     let old = m.connections;
     let n = lived(m);
     let mut i: usize = 0;
-    while i < n {
+    while i < 8 {
+        if n <= i {
+            return false;
+        }
         if old[i].room == room {
             return true;
         }
@@ -79,13 +88,30 @@ pub fn free_room(m: SdoClientManager) -> usize
     28672
 }
 
+// The connection at a place of the array. The places stand one by one, so that the compiler need not copy the table.
+pub fn connection_at(m: SdoClientManager, place: usize) -> SdoClientConnection
+    ensures { λ r. ⌜ r ≡ connectionAt m place ⌝ }
+{
+    let old = m.connections;
+    match place {
+        0 => old[0],
+        1 => old[1],
+        2 => old[2],
+        3 => old[3],
+        4 => old[4],
+        5 => old[5],
+        6 => old[6],
+        7 => old[7],
+        _ => blank(),
+    }
+}
+
 // The connection at a place of the table.
 pub fn held_at(m: SdoClientManager, place: usize) -> SdoClientConnection
     ensures { λ r. ⌜ r ≡ heldAt m place ⌝ }
 {
-    let old = m.connections;
     if place < lived(m) {
-        return old[place];
+        return connection_at(m, place);
     }
     blank()
 }
@@ -95,7 +121,7 @@ pub fn target_of(m: SdoClientManager, node: u8) -> Target
     ensures { λ r. ⌜ r ≡ targetOf m node ⌝ }
 {
     match find(m, node) {
-        Found::At(k) => Target::Held(k, held_at(m, k)),
+        Found::At(k) => Target::Held(k, connection_at(m, k)),
         Found::Absent => {
             if lived(m) == 8 {
                 return Target::Full;

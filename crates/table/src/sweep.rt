@@ -16,7 +16,10 @@ pub fn any_end(m: SdoClientManager) -> bool
     let old = m.connections;
     let n = lived(m);
     let mut i: usize = 0;
-    while i < n {
+    while i < 8 {
+        if n <= i {
+            return false;
+        }
         let c = old[i];
         if let EndFound::End(_) = c.end() {
             return true;

@@ -1,10 +1,10 @@
 // The walk of tick and ask: each connection in turn, in ascending order, up to the first that gives a command.
 ghost use mathlib.Core.Path.{_≡_};
-ghost use mathlib.Core.Bool.{true};
-ghost use Rattle.connection.specs.Ask.{askOf, quiet};
-ghost use Rattle.connection.specs.Tick.{tickOf};
+ghost use Rattle.table.specs.Resting.{nothingToAsk, nothingDue, restsOf, dueIn};
+ghost use Rattle.table.specs.Table.{live};
 ghost use Rattle.table.specs.Walk.{turned as turnedOf, walkOf};
 use crate::held::lived;
+use crate::types::Found;
 use crate::types::SdoClientManager;
 use crate::types::Turn;
 use crate::types::Walk;
@@ -19,7 +19,8 @@ use sdo::SdoClientConnectionState;
 use sdo::Sends;
 use sdo::Stepped;
 
-fn turned(t: Turn, c: SdoClientConnection, n: Now) -> Stepped
+// What a connection does at its turn.
+pub fn turned(t: Turn, c: SdoClientConnection, n: Now) -> Stepped
     ensures { λ r. ⌜ r ≡ turnedOf t c n ⌝ }
 {
     match t {
@@ -28,9 +29,10 @@ fn turned(t: Turn, c: SdoClientConnection, n: Now) -> Stepped
     }
 }
 
-// Whether an ask leaves a connection as it is and gives nothing, as its record shows at a glance: it waits for a reply, or has no job.
-fn nothing_to_ask(c: SdoClientConnection, n: Now) -> bool
-    ensures { λ r. ⌜ (r ≡ true → askOf c n ≡ quiet c) ⌝ }
+// Whether an ask leaves a connection as it is and gives nothing, as its record shows at a glance: it waits for a reply, or is in a state that
+// asks nothing.
+fn nothing_to_ask(c: SdoClientConnection) -> bool
+    ensures { λ r. ⌜ r ≡ nothingToAsk c ⌝ }
 {
     let waiting = c.waiting;
     let outstanding = waiting.last_sent_command;
@@ -38,15 +40,20 @@ fn nothing_to_ask(c: SdoClientConnection, n: Now) -> bool
     if let Outstanding::Waits(_) = outstanding {
         return true;
     }
-    if let SdoClientConnectionState::Idle = state {
-        return true;
+    match state {
+        SdoClientConnectionState::Idle => return true,
+        SdoClientConnectionState::Opening => return false,
+        SdoClientConnectionState::Established => return false,
+        SdoClientConnectionState::UploadInit => return true,
+        SdoClientConnectionState::UploadInProgress => return false,
+        SdoClientConnectionState::DownloadInProgress => return false,
+        SdoClientConnectionState::Closed => return true,
     }
-    false
 }
 
 // The same of a tick: there is no deadline, or it has not come.
 fn nothing_due(c: SdoClientConnection, n: Now) -> bool
-    ensures { λ r. ⌜ (r ≡ true → tickOf c n ≡ quiet c) ⌝ }
+    ensures { λ r. ⌜ r ≡ nothingDue c n ⌝ }
 {
     let waiting = c.waiting;
     let deadline = waiting.deadline;
@@ -61,14 +68,35 @@ fn nothing_due(c: SdoClientConnection, n: Now) -> bool
     }
 }
 
-// Whether the walk passes over a connection: most rest at most calls, and need not be copied out and back.
+// Whether a connection rests at a turn: most do at most turns.
 fn rests(t: Turn, c: SdoClientConnection, n: Now) -> bool
-    ensures { λ r. ⌜ (r ≡ true → turnedOf t c n ≡ quiet c) ⌝ }
+    ensures { λ r. ⌜ r ≡ restsOf t c n ⌝ }
 {
     match t {
-        Turn::Asking => nothing_to_ask(c, n),
+        Turn::Asking => nothing_to_ask(c),
         Turn::Ticking => nothing_due(c, n),
     }
+}
+
+// The place of the first that does not rest.
+pub fn due(m: SdoClientManager, t: Turn, when: Now) -> Found
+    ensures { λ r. ⌜ r ≡ dueIn t «when» (live m) ⌝ }
+{
+    let old = m.connections;
+    let n = lived(m);
+    let mut i: usize = 0;
+    while i < 8 {
+        if n <= i {
+            return Found::Absent;
+        }
+        let c = old[i];
+        if rests(t, c, when) {
+            i += 1;
+            continue;
+        }
+        return Found::At(i);
+    }
+    Found::Absent
 }
 
 // The manager after the walk, and where it was left. A refusal on the way leaves the manager as it was.

@@ -1,7 +1,8 @@
 -- `table::held::find` meets its contract. The loop's invariant: none of the first `i` connections is to the node. The measure is what is
--- left of the connections held. Assumes nothing.
+-- left of the eight places. Assumes nothing.
 use Prim.Native.Nat.{_-_}
 use mathlib.Core.Path.{refl}
+use native.Mathlib.Omega.{arith}
 use Rattle.table.proofs.Scanning.{Seeking, absent, found, scan-none, seeking-more}
 use borrow.Author.Needs.{needs}
 use Rattle.table.proofs.held.find.Statement.{statement}
@@ -11,7 +12,7 @@ abbrev Inv-loop : tie.InvT-loop
 Inv-loop node old n i₀ i = Seeking node old n i
 
 abbrev μ-loop : tie.MeasureT-loop
-μ-loop node old n i₀ i = n - i
+μ-loop node old n i₀ i = 8 - i
 
 pub find-spec : {M : Type 1} → statement M
 find-spec =
@@ -21,10 +22,11 @@ find-spec =
     μ-loop
     (λ c κs. search needs)
     (λ c. search (needs, scan-none))
+    (λ c. search (needs, absent))
     (λ c. search needs)
     (λ c. search needs)
     (λ c. search (needs, found))
     (λ c. search needs)
     (λ c. search needs)
-    (λ c. seeking-more _ _ _ _ _ _ (search needs) refl (search needs) (c .if1 .left))
-    (λ c. search (needs, absent)))
+    (λ c. seeking-more _ _ _ _ _ _ (search needs) refl (search needs) (c .if2 .left))
+    (λ c. let k = c .before .loop .inv .most in absent _ _ _ _ (c .before .before .lived .ensures) (c .before .loop .inv) (omega arith)))

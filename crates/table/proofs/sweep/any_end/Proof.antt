@@ -1,6 +1,7 @@
 -- `table::sweep::any_end` meets its contract. The loop's invariant: none of the first `i` connections has ended. The measure is what is
--- left of the connections held. Assumes nothing.
+-- left of the eight places. Assumes nothing.
 use Prim.Native.Nat.{_-_}
+use native.Mathlib.Omega.{arith}
 use Rattle.table.proofs.Scanning.{Ending, ended, ending-more, none-ended, scan-none}
 use borrow.Author.Needs.{needs}
 use Rattle.table.proofs.sweep.any_end.Statement.{statement}
@@ -10,7 +11,7 @@ abbrev Inv-loop : tie.InvT-loop
 Inv-loop old n i₀ i = Ending old n i
 
 abbrev μ-loop : tie.MeasureT-loop
-μ-loop old n i₀ i = n - i
+μ-loop old n i₀ i = 8 - i
 
 pub any-end-spec : {M : Type 1} → statement M
 any-end-spec =
@@ -20,6 +21,7 @@ any-end-spec =
     μ-loop
     (λ c κs. search needs)
     (λ c. search (needs, scan-none))
+    (λ c. search (needs, none-ended))
     (λ c. search needs)
     (λ c. search needs)
     (λ c κs. search needs)
@@ -29,4 +31,4 @@ any-end-spec =
     (λ c. search needs)
     (λ c. search needs)
     (λ c. search (needs, ending-more))
-    (λ c. search (needs, none-ended)))
+    (λ c. let k = c .before .loop .inv .most in none-ended _ _ _ (c .before .before .lived .ensures) (c .before .loop .inv) (omega arith)))

@@ -1,24 +1,21 @@
--- `table::walk::nothing_due` meets its contract: what tick does without a deadline and before it. Assumes nothing.
-use Prim.Native.Nat.{ℕ}
-use native.Mathlib.Omega.{arith}
-use mathlib.Core.Path.{_≡_}
-use Rattle.connection.specs.Tick.{tickOf}
-use Rattle.laws.specs.Pick.{pick}
-use borrow.Author.Tests.{lt-ltb}
+-- `table::walk::nothing_due` meets its contract: no deadline, or one that has not come. Assumes nothing.
+use Rattle.table.specs.Resting.{nothingDue}
+use borrow.Author.Tests.{le-ltb, lt-ltb}
 use borrow.Author.Needs.{needs}
 use Rattle.table.proofs.walk.nothing_due.Statement.{statement}
 use Rattle.table.proofs.walk.nothing_due.Tie as tie
 
 returns : tie.Need-returns
-unfolding tickOf
-returns c h = rw (c .enum-told .given .1)
+unfolding nothingDue
+returns c = rw (c .enum-told .given .1)
 
 returns-2 : tie.Need-returns-2
-unfolding tickOf pick
-returns-2 c h = rw (c .before .before .before .deadline .given .1, lt-ltb _ _ (c .if1 .taken))
+unfolding nothingDue
+returns-2 c = rw (c .before .before .before .deadline .given .1, lt-ltb _ _ (c .if1 .taken))
 
 returns-3 : tie.Need-returns-3
-returns-3 c h = let z : _≡_ {A = ℕ} 0 1 = cc h in absurd (omega arith)
+unfolding nothingDue
+returns-3 c = rw (c .before .before .before .deadline .given .1, le-ltb _ _ (c .if1 .left))
 
 pub nothing-due-spec : {M : Type 1} → statement M
 nothing-due-spec =

@@ -17,7 +17,7 @@ loop-again : tie.Need-loop-again Inv-loop μ-loop
 loop-again c =
     let d = c .before .before .before in
     let k = d .before .loop .inv in
-    (going-rest _ _ _ _ _ _ _ (k .0) (d .if1 .left) (c .before .rests .ensures (c .if2 .taken)), k .1, k .2)
+    (going-rest _ _ _ _ _ _ _ _ (k .0) (d .if1 .left) (c .before .rests .ensures) (c .if2 .taken), k .1, k .2)
 
 loop-again-2 : tie.Need-loop-again-2 Inv-loop μ-loop
 loop-again-2 c =

@@ -1,3 +1,4 @@
+pub mod Changing
 pub mod Deadlines
 pub mod Inserting
 pub mod Lending

@@ -1,7 +1,7 @@
 -- The manager's calls (document 01, "The manager" and "Numbers that refuse"). Starts check 9, 6, 4, 5, 7, 8. Tick and ask check 9, 1, then
 -- walk. A reply checks 9, then its own steps. Every refusal leaves state, store and output untouched, but 4 and 5 take a transaction
 -- number, and 5 for a new node enters an Idle connection.
-use Prim.Native.Nat.{ℕ, _<_, min}
+use Prim.Native.Nat.{ℕ, min}
 use mathlib.Core.Bool.{Bool, true, false}
 use mathlib.Core.List.{List, [], _∷_}
 use lib.Dec.{ltb, eqb}
@@ -28,7 +28,6 @@ use Rattle.manager.specs.Types.{
   SdoClientConnection,
   SdoClientManager,
   SdoCommand,
-  Seat,
   SequenceLayerHeader,
   Target,
   Turn,
@@ -82,11 +81,6 @@ turnOutput t m n store output =
     output
 
 -- ---- reply
-
--- the manager with another connection at a place
-abbrev pub withAt : SdoClientManager → ℕ → SdoClientConnection → SdoClientManager
-withAt m k c =
-    record { connections = set (m .connections) k c; count = m .count; «next_transaction_id» = m .«next_transaction_id» }
 
 abbrev pub repliedAs : Changed → ℕ → SdoClientManager → Done
 repliedAs (Changed.Connection d) k m = leaving (set (live m) k d) (m .«next_transaction_id») Answer.Nothing
@@ -190,36 +184,6 @@ startDone m node job n store =
 unfoldable pub startStore : SdoClientManager → ℕ → Job → Now → Bytes → Bytes
 startStore m node job n store =
     pick (eqb (length store) storeSize) (startStoreAt (targetOf m node) m job n store) store
-
--- the same by parts: the connection that a job goes to, or why there is none
-abbrev pub seatAt : Target → Seat
-seatAt Target.Full = Seat.Refused Refusal.TableFull
-seatAt (Target.Held k c) = Seat.On c
-seatAt (Target.New c) = Seat.On c
-
-unfoldable pub seatOf : Target → ℕ → Seat
-seatOf t size = pick (eqb size storeSize) (seatAt t) (Seat.Refused Refusal.WrongStore)
-
--- the table with that connection after the start, and after its refusal
-abbrev pub enteredOf : Target → SdoClientConnection → SdoClientManager → SdoClientManager
-enteredOf Target.Full d m = m
-enteredOf (Target.Held k c) d m = tableOf (set (live m) k d) (numberOf m)
-enteredOf (Target.New c) d m = tableOf (insertIn d (live m)) (numberOf m)
-
-abbrev pub numberedOf : Target → SdoClientManager → SdoClientManager
-numberedOf Target.Full m = m
-numberedOf (Target.Held k c) m = stepped m
-numberedOf (Target.New c) m = tableOf (insertIn c (live m)) (numberOf m)
-
-unfoldable pub startedBy : Changed → Target → SdoClientManager → Done
-startedBy (Changed.Connection d) t m = nothingDone (enteredOf t d m)
-startedBy (Changed.Refused r) t m = refusing (pick (takesNumber r) (numberedOf t m) m) r
-
--- a new connection has a place below eight
-abbrev pub HasPlace : Target → SdoClientManager → Type 0
-HasPlace Target.Full m = Unit
-HasPlace (Target.Held k c) m = Unit
-HasPlace (Target.New c) m = length (live m) < 8
 
 -- ---- next_action_time: the least deadline, or none
 

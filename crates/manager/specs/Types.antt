@@ -11,10 +11,13 @@ pub use Rattle.sdo.specs.declared.Sends.{Sends}
 pub use Rattle.sdo.specs.declared.Step.{Step}
 pub use Rattle.sdo.specs.declared.Stepped.{Stepped}
 pub use Rattle.manager.specs.declared.types.Answer.{Answer}
+pub use Rattle.manager.specs.declared.types.Change.{Change}
 pub use Rattle.manager.specs.declared.types.Done.{Done}
+pub use Rattle.manager.specs.declared.types.Entry.{Entry}
 pub use Rattle.table.specs.declared.types.Found.{Found}
 pub use Rattle.table.specs.declared.types.SdoClientManager.{SdoClientManager}
 pub use Rattle.manager.specs.declared.types.Seat.{Seat}
+pub use Rattle.manager.specs.declared.types.Turning.{Turning}
 pub use Rattle.table.specs.declared.types.Target.{Target}
 pub use Rattle.table.specs.declared.types.Turn.{Turn}
 pub use Rattle.table.specs.declared.types.Walk.{Walk}

@@ -1,53 +1,55 @@
-// Tick and ask: the walk, the payload at the start of the output, and the ended connections removed.
+// Tick and ask: what the first connection that does not rest changes; and by value, the walk, the payload at the start of the output, and the ended
+// connections removed.
 ghost use mathlib.Core.Path.{_≡_};
 ghost use Rattle.manager.specs.Calls.{
   refusing as refusingOf,
-  nothingDone as nothingDoneOf,
   leaving as leavingOf,
   sentTo,
   turnOf,
   turnOutput,
 };
+ghost use lib.ListN.{length};
+ghost use Rattle.manager.specs.Change.{turningBy, outputBy, turningOf, turningOutput};
+ghost use Rattle.table.specs.Walk.{turned as turnedOf};
 ghost use Rattle.table.specs.Table.{live};
+use crate::change::putting;
+use crate::change::same;
 use crate::enter::first_of;
 use crate::room::room_in;
 use crate::types::Answer;
 use crate::types::Done;
+use crate::types::Entry;
 use crate::types::SentTo;
+use crate::types::Turning;
 use codec::refusal::Refusal;
 use sdo::Now;
 use sdo::Outgoing;
 use sdo::SdoClientConnection;
+use sdo::Sends;
+use sdo::Stepped;
 use sdo::payload::write_payload;
+use table::held::connection_at;
 use table::held::held_at;
 use table::held::lived;
 use table::sweep::any_end;
 use table::sweep::ends_of;
 use table::sweep::swept;
+use table::types::Found;
 use table::types::SdoClientManager;
 use table::types::Turn;
 use table::types::Walked;
 use table::types::no_ends;
+use table::walk::due;
+use table::walk::turned;
 use table::walk::walk;
 
 // A call that refuses.
-pub(crate) fn refusing(m: SdoClientManager, r: Refusal) -> Done
+fn refusing(m: SdoClientManager, r: Refusal) -> Done
     ensures { λ d. ⌜ d ≡ refusingOf m r ⌝ }
 {
     Done {
         manager: m,
         answer: Answer::Refused(r),
-        ends: no_ends(),
-    }
-}
-
-// A call that sends nothing, refuses nothing and ends nothing.
-pub(crate) fn nothing_done(m: SdoClientManager) -> Done
-    ensures { λ d. ⌜ d ≡ nothingDoneOf m ⌝ }
-{
-    Done {
-        manager: m,
-        answer: Answer::Nothing,
         ends: no_ends(),
     }
 }
@@ -104,6 +106,53 @@ pub fn turn(t: Turn, m: SdoClientManager, n: Now, store: &[u8], output: &mut [u8
         }
     }
     refusing(m, Refusal::WrongStore)
+}
+
+// What the first connection that does not rest changes, at its place.
+fn turned_at(
+    t: Turn,
+    k: usize,
+    c: SdoClientConnection,
+    n: Now,
+    store: &[u8],
+    output: &mut [u8],
+) -> Turning
+    requires { ⌜ length (now store) ≡ 32768 ⌝ }
+    ensures { λ r. ⌜ r ≡ turningBy (turnedOf t c n) t k n ⌝ }
+    ensures { λ _. ⌜ now (output .exit) ≡ outputBy (turnedOf t c n) (now (store .entry)) (now (output .entry)) ⌝ }
+{
+    match turned(t, c, n) {
+        Stepped::Refused(r) => {
+            return Turning::Changes(same(Answer::Refused(r)));
+        }
+        Stepped::Went(s) => {
+            let d = s.connection;
+            let sends = s.sends;
+            let Sends::Gives(o) = sends else {
+                return Turning::Several(t, n);
+            };
+            write_payload(o, room_in(store, d), output);
+            return Turning::Changes(putting(Entry::At(k, d), sent_to(d, o)));
+        }
+    }
+}
+
+// What ask or tick changes, by which turn it is: the first connection that does not rest gives a command, or all rest. Refusals as of
+// get_pending_request.
+pub fn turning(t: Turn, m: SdoClientManager, n: Now, store: &[u8], output: &mut [u8]) -> Turning
+    ensures { λ r. ⌜ r ≡ turningOf t m n (now (store .entry)) (now (output .entry)) ⌝ }
+    ensures { λ _. ⌜ now (output .exit) ≡ turningOutput t m n (now (store .entry)) (now (output .entry)) ⌝ }
+{
+    if store.len() == 32768 {
+        if output.len() < 1452 {
+            return Turning::Changes(same(Answer::Refused(Refusal::BufferTooShort)));
+        }
+        match due(m, t, n) {
+            Found::Absent => return Turning::Changes(putting(Entry::Nowhere, Answer::Nothing)),
+            Found::At(k) => return turned_at(t, k, connection_at(m, k), n, store, output),
+        }
+    }
+    Turning::Changes(same(Answer::Refused(Refusal::WrongStore)))
 }
 
 fn sent_to(c: SdoClientConnection, o: Outgoing) -> Answer

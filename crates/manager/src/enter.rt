@@ -2,7 +2,6 @@
 ghost use mathlib.Core.Path.{_≡_};
 ghost use Prim.Native.Nat.{_<_, _≤_};
 ghost use lib.ListN.{length, take, set};
-ghost use Rattle.manager.specs.Calls.{withAt};
 ghost use Rattle.table.specs.Table.{live, padded, tableOf, insertIn};
 use sdo::SdoClientConnection;
 use table::held::lived;
@@ -45,18 +44,6 @@ pub(crate) fn insert(m: SdoClientManager, c: SdoClientConnection, number: u8) ->
         count: n + 1,
         next_transaction_id: number,
     }
-}
-
-// The manager with another connection at a place. The other places stay as they are.
-pub(crate) fn with_at(m: SdoClientManager, place: usize, c: SdoClientConnection) -> SdoClientManager
-    ensures { λ r. ⌜ r ≡ withAt m place c ⌝ }
-{
-    if place < 8 {
-        let mut after = m;
-        after.connections[place] = c;
-        return after;
-    }
-    m
 }
 
 // The manager with another connection at a place of those held, blank past them, and a transaction number.

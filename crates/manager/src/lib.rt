@@ -2,6 +2,7 @@
 // its jobs lie in a store of 32,768 bytes that the caller lends, a room of 4,096 for each connection held. Every function is total on any
 // manager and any slices.
 pub mod ask;
+pub mod change;
 pub(crate) mod enter;
 pub mod next;
 pub mod reply;

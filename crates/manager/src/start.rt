@@ -1,26 +1,16 @@
 // Starts: a job for a node, on the connection it has or on a new one. Refusals 9, 6, 4, 5, 7, 8, in this order.
 ghost use mathlib.Core.Path.{_≡_};
-ghost use Rattle.manager.specs.Calls.{
-  writes,
-  reads,
-  loads,
-  stepped as steppedOf,
-  takesNumber,
-  HasPlace,
-  enteredOf,
-  numberedOf,
-  startedBy,
-  seatOf,
-  startDone,
-  startStore,
-};
-use crate::ask::nothing_done;
-use crate::ask::refusing;
-use crate::enter::insert;
-use crate::enter::replace;
+ghost use Rattle.manager.specs.Calls.{writes, reads, loads, takesNumber, startDone, startStore};
+ghost use Rattle.manager.specs.Change.{entryOf, idleOf, seatOf, startingBy, startingOf};
+use crate::change::changed;
+use crate::change::same;
+use crate::change::taking;
 use crate::room::dcf_in;
 use crate::room::write_in;
+use crate::types::Answer;
+use crate::types::Change;
 use crate::types::Done;
+use crate::types::Entry;
 use crate::types::Seat;
 use codec::refusal::Refusal;
 use connection::start::start_read_job;
@@ -51,52 +41,39 @@ fn takes_number(r: Refusal) -> bool
     }
 }
 
-fn stepped(m: SdoClientManager) -> SdoClientManager
-    ensures { λ r. ⌜ r ≡ steppedOf m ⌝ }
-{
-    SdoClientManager {
-        next_transaction_id: next_transaction(m.next_transaction_id),
-        ..m
-    }
-}
-
-// The table after a job was started: its connection in the place it has, or in a new one.
-fn entered(t: Target, c: SdoClientConnection, m: SdoClientManager) -> SdoClientManager
-    requires { ⌜ HasPlace t m ⌝ }
-    ensures { λ r. ⌜ r ≡ enteredOf t c m ⌝ }
-{
-    let number = next_transaction(m.next_transaction_id);
-    match t {
-        Target::Held(place, _) => replace(m, place, c, number),
-        Target::New(_) => insert(m, c, number),
-        Target::Full => m,
-    }
-}
-
-// The table after a refusal that takes a number: a new node's connection is entered, Idle.
-fn numbered(t: Target, m: SdoClientManager) -> SdoClientManager
-    requires { ⌜ HasPlace t m ⌝ }
-    ensures { λ r. ⌜ r ≡ numberedOf t m ⌝ }
+// Where a connection goes that a job was started on, or that a refusal enters.
+fn entry_of(t: Target, d: SdoClientConnection) -> Entry
+    ensures { λ r. ⌜ r ≡ entryOf t d ⌝ }
 {
     match t {
-        Target::Held(_, _) => stepped(m),
-        Target::New(c) => insert(m, c, next_transaction(m.next_transaction_id)),
-        Target::Full => m,
+        Target::Held(place, _) => Entry::At(place, d),
+        Target::New(_) => Entry::New(d),
+        Target::Full => Entry::Nowhere,
     }
 }
 
-// What a start comes to, by its connection's answer.
-fn started(a: Changed, t: Target, m: SdoClientManager) -> Done
-    requires { ⌜ HasPlace t m ⌝ }
-    ensures { λ d. ⌜ d ≡ startedBy a t m ⌝ }
+// A refusal that takes a number enters a new node's connection, Idle.
+fn idle_of(t: Target) -> Entry
+    ensures { λ r. ⌜ r ≡ idleOf t ⌝ }
+{
+    match t {
+        Target::Held(_, _) => Entry::Nowhere,
+        Target::New(c) => Entry::New(c),
+        Target::Full => Entry::Nowhere,
+    }
+}
+
+// What a start changes, by its connection's answer.
+fn started(a: Changed, t: Target) -> Change
+    ensures { λ r. ⌜ r ≡ startingBy a t ⌝ }
 {
     match a {
-        Changed::Connection(c) => nothing_done(entered(t, c, m)),
+        Changed::Connection(d) => return taking(entry_of(t, d), Answer::Nothing),
         Changed::Refused(r) => {
             if takes_number(r) {
-                return refusing(numbered(t, m), r);
+                return taking(idle_of(t), Answer::Refused(r));
             }
-            refusing(m, r)
+            return same(Answer::Refused(r));
         }
     }
 }
@@ -121,6 +98,59 @@ fn seat_of(t: Target, store: usize) -> Seat
     Seat::Refused(Refusal::WrongStore)
 }
 
+// What the start of a concise DCF job for a node changes. Refusals as of start_configuration_download.
+pub fn loading(m: SdoClientManager, target: u8, dcf: &[u8], when: Now, store: &mut [u8]) -> Change
+    ensures { λ r. ⌜ r ≡ startingOf m target (loads (now (dcf .entry))) «when» (now (store .entry)) ⌝ }
+    ensures { λ _. ⌜ now (store .exit) ≡ startStore m target (loads (now (dcf .entry))) «when» (now (store .entry)) ⌝ }
+{
+    let t = target_of(m, target);
+    let number = next_transaction(m.next_transaction_id);
+    match seat_of(t, store.len()) {
+        Seat::On(c) => started(dcf_in(c, dcf, number, when, store), t),
+        Seat::Refused(r) => same(Answer::Refused(r)),
+    }
+}
+
+// What the start of a job that writes an object of a node changes. Refusals as of write_object_by_index.
+pub fn writing(
+    m: SdoClientManager,
+    target: u8,
+    index: u16,
+    sub_index: u8,
+    bytes: &[u8],
+    when: Now,
+    store: &mut [u8],
+) -> Change
+    ensures { λ r. ⌜ r ≡ startingOf m target (writes index «sub_index» (now (bytes .entry))) «when» (now (store .entry)) ⌝ }
+    ensures { λ _. ⌜ now (store .exit) ≡ startStore m target (writes index «sub_index» (now (bytes .entry))) «when» (now (store .entry)) ⌝ }
+{
+    let t = target_of(m, target);
+    let number = next_transaction(m.next_transaction_id);
+    match seat_of(t, store.len()) {
+        Seat::On(c) => started(write_in(c, index, sub_index, bytes, number, when, store), t),
+        Seat::Refused(r) => same(Answer::Refused(r)),
+    }
+}
+
+// What the start of a job that reads an object of a node changes. Refusals as of read_object_by_index.
+pub fn reading(
+    m: SdoClientManager,
+    target: u8,
+    index: u16,
+    sub_index: u8,
+    when: Now,
+    store: &[u8],
+) -> Change
+    ensures { λ r. ⌜ r ≡ startingOf m target (reads index «sub_index») «when» (now (store .entry)) ⌝ }
+{
+    let t = target_of(m, target);
+    let number = next_transaction(m.next_transaction_id);
+    match seat_of(t, store.len()) {
+        Seat::On(c) => started(start_read_job(c, index, sub_index, number, when), t),
+        Seat::Refused(r) => same(Answer::Refused(r)),
+    }
+}
+
 // Starts a concise DCF job for a node. 9 for a store that isn't 32,768 bytes, 6 for a ninth node, 4 where its job is running, 5 for a DCF under
 // four bytes, 7 for one over 4,096, 8 where the deadline does not fit; then nothing has happened, but 4 and 5 take a transaction number, and 5
 // enters an Idle connection for a new node.
@@ -134,12 +164,7 @@ pub fn start_configuration_download(
     ensures { λ d. ⌜ d ≡ startDone m target (loads (now (dcf .entry))) «when» (now (store .entry)) ⌝ }
     ensures { λ _. ⌜ now (store .exit) ≡ startStore m target (loads (now (dcf .entry))) «when» (now (store .entry)) ⌝ }
 {
-    let t = target_of(m, target);
-    let number = next_transaction(m.next_transaction_id);
-    match seat_of(t, store.len()) {
-        Seat::On(c) => started(dcf_in(c, dcf, number, when, store), t, m),
-        Seat::Refused(r) => refusing(m, r),
-    }
+    changed(m, loading(m, target, dcf, when, store))
 }
 
 // Starts a job that writes an object of a node. 9, 6, 4 and 8 as of a DCF, 7 where its data and the 4 bytes ahead of them go past 4,096; then
@@ -156,16 +181,7 @@ pub fn write_object_by_index(
     ensures { λ d. ⌜ d ≡ startDone m target (writes index «sub_index» (now (bytes .entry))) «when» (now (store .entry)) ⌝ }
     ensures { λ _. ⌜ now (store .exit) ≡ startStore m target (writes index «sub_index» (now (bytes .entry))) «when» (now (store .entry)) ⌝ }
 {
-    let t = target_of(m, target);
-    let number = next_transaction(m.next_transaction_id);
-    match seat_of(t, store.len()) {
-        Seat::On(c) => started(
-            write_in(c, index, sub_index, bytes, number, when, store),
-            t,
-            m,
-        ),
-        Seat::Refused(r) => refusing(m, r),
-    }
+    changed(m, writing(m, target, index, sub_index, bytes, when, store))
 }
 
 // Starts a job that reads an object of a node. 9, 6, 4 and 8 as of a write.
@@ -179,10 +195,5 @@ pub fn read_object_by_index(
 ) -> Done
     ensures { λ d. ⌜ d ≡ startDone m target (reads index «sub_index») «when» (now (store .entry)) ⌝ }
 {
-    let t = target_of(m, target);
-    let number = next_transaction(m.next_transaction_id);
-    match seat_of(t, store.len()) {
-        Seat::On(c) => started(start_read_job(c, index, sub_index, number, when), t, m),
-        Seat::Refused(r) => refusing(m, r),
-    }
+    changed(m, reading(m, target, index, sub_index, when, store))
 }

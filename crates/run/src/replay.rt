@@ -11,45 +11,48 @@ use codec::sequence::Written;
 use libc::STDIN_FILENO;
 use libc::STDOUT_FILENO;
 use lines::line::write_line;
+use lines::line::write_quiet_line;
 use manager::ask::turn;
+use manager::change::changed;
+use manager::change::number_after;
 use manager::types::Answer;
-use manager::types::Done;
-use sdo::Now;
+use manager::types::Entry;
+use manager::types::Turning;
+use sdo::EndFound;
+use sdo::SdoClientConnection;
+use sdo::numbers::at_most;
 use table::types::Ends;
 use table::types::SdoClientManager;
-use table::types::Turn;
-use table::types::no_ends;
+use trace::apply::Applied;
 use trace::apply::apply;
-use trace::gather::Gathering;
-use trace::gather::gather_record;
-use trace::record::Operation;
-use trace::record::RecordRead;
-use trace::record::read_record;
 
-// How far a run is: the manager, the bytes gathered, the records read, the text not yet written, and whether the last record ended its
-// node's job Complete.
-pub struct Run {
-    pub manager: SdoClientManager,
+// How far a run is: the bytes gathered, the records read, the text not yet written, and whether the last record ended its node's job Complete.
+pub struct Progress {
     pub gathered: usize,
     pub number: u16,
     pub text: usize,
     pub complete: bool,
 }
 
-// A tick or an ask and its time, or any other record.
-enum TurnRead {
-    Turns(Turn, u64),
-    Other,
+pub struct Run {
+    pub manager: SdoClientManager,
+    pub progress: Progress,
 }
 
 fn started() -> Run {
     Run {
         manager: SdoClientManager::new(),
-        gathered: 0,
-        number: 0,
-        text: 0,
-        complete: false,
+        progress: Progress {
+            gathered: 0,
+            number: 0,
+            text: 0,
+            complete: false,
+        },
     }
+}
+
+fn run_of(manager: SdoClientManager, progress: Progress) -> Run {
+    Run { manager, progress }
 }
 
 // As much of the input as there is, up to a piece.
@@ -105,6 +108,22 @@ fn told(
     )
 }
 
+// The same where nothing ended.
+fn told_quiet(
+    at: usize,
+    number: u16,
+    b: &[u8],
+    answer: Answer,
+    output: &[u8; 1452],
+    text: &mut [u8; 65536],
+) -> usize {
+    let from = flushed(text, at);
+    further(
+        from,
+        write_quiet_line(text, from, number, b, answer, output),
+    )
+}
+
 // The bytes of the next record, which may be short.
 fn record_at(input: &[u8], at: usize) -> &[u8] {
     if input.len() < at {
@@ -114,77 +133,70 @@ fn record_at(input: &[u8], at: usize) -> &[u8] {
     part(input, at, if left < 32 { left } else { 32 })
 }
 
-// What a record came to, told: its line is put into the text.
-fn after(
-    done: Done,
+// What a record changes of the manager.
+fn changes_of(
+    m: SdoClientManager,
     gathered: usize,
-    number: u16,
-    at: usize,
-    b: &[u8],
-    output: &[u8; 1452],
-    text: &mut [u8; 65536],
-) -> Run {
-    let manager = done.manager;
-    let answer = done.answer;
-    let ends = done.ends;
-    Run {
-        manager,
-        gathered,
-        number,
-        text: told(at, number, b, answer, ends, output, text),
-        complete: complete(ends, byte(b, 1)),
-    }
-}
-
-// Which turn a record is, and its time.
-fn turn_of(b: &[u8]) -> TurnRead {
-    let RecordRead::Record(r) = read_record(b) else {
-        return TurnRead::Other;
-    };
-    let operation = r.operation;
-    let Operation::Turns(t) = operation else {
-        return TurnRead::Other;
-    };
-    TurnRead::Turns(t, r.time)
-}
-
-// One record: applied, and its line written. At most 65,535 are read. A tick or an ask goes straight to the manager.
-fn one(
-    run: Run,
     p: Parameters,
     b: &[u8],
     store: &mut [u8; 32768],
     gather: &mut [u8; 4112],
     output: &mut [u8; 1452],
-    text: &mut [u8; 65536],
-) -> Run {
-    if run.number == 65535 {
-        return run;
-    }
-    let number = run.number + 1;
-    let m = run.manager;
+) -> Applied {
     let timeout = p.timeout;
     let retries = p.retries;
-    let held = run.gathered;
-    match turn_of(b) {
-        TurnRead::Turns(t, time) => {
-            let when = Now {
-                time,
-                timeout,
-                retries,
-            };
-            let done = turn(t, m, when, store, output);
-            return after(done, held, number, run.text, b, output, text);
-        }
-        TurnRead::Other => {
-            let applied = apply(m, held, b, timeout, retries, store, gather, output);
-            let done = applied.done;
-            return after(done, applied.gathered, number, run.text, b, output, text);
-        }
+    apply(m, gathered, b, timeout, retries, store, gather, output)
+}
+
+// A record by a call that moves the manager: where a connection ended or is entered, and where several may change.
+fn moved(
+    run: Run,
+    changes: Turning,
+    b: &[u8],
+    store: &[u8; 32768],
+    output: &mut [u8; 1452],
+    text: &mut [u8; 65536],
+) -> Run {
+    let m = run.manager;
+    let r = run.progress;
+    let done = match changes {
+        Turning::Changes(c) => changed(m, c),
+        Turning::Several(t, n) => turn(t, m, n, store, output),
+    };
+    let manager = done.manager;
+    let answer = done.answer;
+    let ends = done.ends;
+    let progress = Progress {
+        gathered: r.gathered,
+        number: r.number,
+        text: told(r.text, r.number, b, answer, ends, output, text),
+        complete: complete(ends, byte(b, 1)),
+    };
+    Run { manager, progress }
+}
+
+// Whether a connection has ended.
+fn ended(c: SdoClientConnection) -> bool {
+    if let EndFound::End(_) = c.end() {
+        return true;
+    }
+    false
+}
+
+// Whether a record's changes move the manager.
+fn moves(changes: Turning) -> bool {
+    let Turning::Changes(change) = changes else {
+        return true;
+    };
+    let entry = change.entry;
+    match entry {
+        Entry::Nowhere => return false,
+        Entry::At(_, c) => return ended(c),
+        Entry::New(_) => return true,
     }
 }
 
-// The records of a piece. A gather is done on the spot: what it changes is not the manager, which is long to move.
+// The records of a piece, and no more than 65,535 in all. Most leave the manager where it is, and change one connection of it at most.
 fn piece(
     run: Run,
     p: Parameters,
@@ -194,29 +206,41 @@ fn piece(
     output: &mut [u8; 1452],
     text: &mut [u8; 65536],
 ) -> Run {
-    let mut r = run;
+    let mut m = run.manager;
+    let mut r = run.progress;
     let mut at: usize = 0;
     while at < input.len() {
-        if input.len() - at < 32 {
-            let b = part(input, at, input.len() - at);
-            return one(r, p, b, store, gather, output, text);
-        }
-        let b = part(input, at, 32);
-        at += 32;
         if r.number == 65535 {
-            return r;
+            break;
         }
-        let Gathering::Gathers(g) = gather_record(r.gathered, b, gather) else {
-            r = one(r, p, b, store, gather, output, text);
+        let n = at_most(input.len() - at, 32);
+        let b = part(input, at, n);
+        at += n;
+        let applied = changes_of(m, r.gathered, p, b, store, gather, output);
+        let changes = applied.changes;
+        r.number += 1;
+        r.gathered = applied.gathered;
+        if moves(changes) {
+            let after = moved(run_of(m, r), changes, b, store, output, text);
+            m = after.manager;
+            r = after.progress;
+            continue;
+        }
+        let Turning::Changes(change) = changes else {
             continue;
         };
-        let answer = g.answer;
-        r.number += 1;
-        r.gathered = g.gathered;
-        r.text = told(r.text, r.number, b, answer, no_ends(), output, text);
+        let entry = change.entry;
+        let answer = change.answer;
+        if let Entry::At(place, c) = entry {
+            if place < 8 {
+                m.connections[place] = c;
+            }
+        }
+        m.next_transaction_id = number_after(change, m.next_transaction_id);
+        r.text = told_quiet(r.text, r.number, b, answer, output, text);
         r.complete = false;
     }
-    r
+    run_of(m, r)
 }
 
 // A record by itself, its line followed by the manager's state.
@@ -229,16 +253,24 @@ fn one_shown(
     output: &mut [u8; 1452],
     text: &mut [u8; 65536],
 ) -> Run {
-    if run.number == 65535 {
+    let before = run.manager;
+    let r = run.progress;
+    if r.number == 65535 {
         return run;
     }
-    let before = run.manager;
-    let upload = upload_before(before, run.gathered, b);
+    let upload = upload_before(before, r.gathered, b);
     let after = piece(run, p, b, store, gather, output, text);
-    let held = after.manager;
-    write_out(text, after.text);
-    print_state(held, upload, after.complete, store);
-    Run { text: 0, ..after }
+    let manager = after.manager;
+    let progress = after.progress;
+    write_out(text, progress.text);
+    print_state(manager, upload, progress.complete, store);
+    Run {
+        manager,
+        progress: Progress {
+            text: 0,
+            ..progress
+        },
+    }
 }
 
 // The records of a piece, each line followed by the manager's state where states are shown.
@@ -291,7 +323,8 @@ fn run_by(p: Parameters) {
         }
         pieces += 1;
     }
-    write_out(&text, run.text);
+    let progress = run.progress;
+    write_out(&text, progress.text);
 }
 
 // Replays standard input; timeout and retries are absent.

@@ -6,6 +6,7 @@ pub mod Delivering
 pub mod Exactly
 pub mod Fixing
 pub mod FreeRooms
+pub mod InPlace
 pub mod JobRooms
 pub mod OneAnswer
 pub mod Ordering

@@ -1,6 +1,7 @@
 pub mod Causes
 pub mod Demand
 pub mod Edges
+pub mod InPlace
 pub mod Quiet
 pub mod Reports
 pub mod Run

@@ -25,7 +25,10 @@ pub use Rattle.sdo.specs.declared.SdoJob.{SdoJob}
 pub use Rattle.sdo.specs.declared.Sends.{Sends}
 pub use Rattle.sdo.specs.declared.Stepped.{Stepped}
 pub use Rattle.manager.specs.declared.types.Answer.{Answer}
+pub use Rattle.manager.specs.declared.types.Change.{Change}
 pub use Rattle.manager.specs.declared.types.Done.{Done}
+pub use Rattle.manager.specs.declared.types.Entry.{Entry}
+pub use Rattle.manager.specs.declared.types.Turning.{Turning}
 pub use Rattle.table.specs.declared.types.Ends.{Ends}
 pub use Rattle.table.specs.declared.types.Found.{Found}
 pub use Rattle.table.specs.declared.types.SdoClientManager.{SdoClientManager}

@@ -1,5 +1,4 @@
 pub mod Buffers
-pub mod GatherAlone
 pub mod Gathers
 pub mod Operations
 pub mod Performing

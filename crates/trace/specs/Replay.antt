@@ -8,26 +8,16 @@ use Rattle.laws.specs.Pick.{pick}
 use Rattle.codec.specs.Bytes.{Bytes, placed}
 use Rattle.codec.specs.Command.{headerAt}
 use Rattle.codec.specs.Sequence.{headerOf}
-use Rattle.manager.specs.Calls.{
-  loads,
-  reads,
-  replyDone,
-  replyStore,
-  startDone,
-  startStore,
-  turnOf,
-  turnOutput,
-  writes,
-}
-use Rattle.table.specs.Sweep.{noEnds}
+use Rattle.manager.specs.Calls.{loads, reads, replyStore, startStore, writes}
+use Rattle.manager.specs.Change.{replyingOf, same, startingOf, turningOf, turningOutput}
 use Rattle.trace.specs.Gather.{gatherSize, gatheredWith, heldBytes, moreGathered}
 use Rattle.trace.specs.Record.{ownData, recordRead}
 use Rattle.trace.specs.Types.{
   Answer,
   Applied,
+  Change,
   CommandId,
   DataSize,
-  Done,
   Gathered,
   Now,
   Operation,
@@ -38,6 +28,7 @@ use Rattle.trace.specs.Types.{
   SdoClientManager,
   SdoCommand,
   SequenceLayerHeader,
+  Turning,
   Use,
 }
 
@@ -56,40 +47,40 @@ flagged flags = 0 ∷ 0 ∷ flags ∷ 0 ∷ 0 ∷ 0 ∷ 0 ∷ 0 ∷ 0 ∷ 0 ∷ 
 abbrev pub replyCommand : ℕ → SdoCommand
 replyCommand flags = record { header = headerAt (flagged flags) CommandId.Nil; «data_size» = DataSize.Absent }
 
--- the library's call with those bytes, and the store after it
-abbrev pub useDone : Use → Record → SdoClientManager → Now → Bytes → Bytes → Done
-useDone Use.Write r m n bytes store = startDone m (r .node) (writes (r .index) (r .«sub_index») bytes) n store
-useDone Use.Dcf r m n bytes store = startDone m (r .node) (loads bytes) n store
-useDone Use.Reply r m n bytes store = replyDone m (r .node) (replyHeader (r .index)) (replyCommand (r .flags)) bytes store
+-- what the library's call with those bytes changes, and the store after it
+abbrev pub useChange : Use → Record → SdoClientManager → Now → Bytes → Bytes → Change
+useChange Use.Write r m n bytes store = startingOf m (r .node) (writes (r .index) (r .«sub_index») bytes) n store
+useChange Use.Dcf r m n bytes store = startingOf m (r .node) (loads bytes) n store
+useChange Use.Reply r m n bytes store = replyingOf m (r .node) (replyHeader (r .index)) (replyCommand (r .flags)) bytes store
 
 abbrev pub useStore : Use → Record → SdoClientManager → Now → Bytes → Bytes → Bytes
 useStore Use.Write r m n bytes store = startStore m (r .node) (writes (r .index) (r .«sub_index») bytes) n store
 useStore Use.Dcf r m n bytes store = startStore m (r .node) (loads bytes) n store
 useStore Use.Reply r m n bytes store = replyStore m (r .node) (replyHeader (r .index)) (replyCommand (r .flags)) bytes store
 
--- a call and how many bytes are gathered after it
-abbrev pub andHeld : Done → ℕ → Applied
-andHeld done gathered = record { done = done; gathered = gathered }
+-- what a call changes and how many bytes are gathered after it
+abbrev pub andHeld : Turning → ℕ → Applied
+andHeld changes gathered = record { changes = changes; gathered = gathered }
 
--- an answer of the replay's own: the manager as it was, no end
-abbrev pub answeredWith : SdoClientManager → Answer → ℕ → Applied
-answeredWith m answer gathered = andHeld (record { manager = m; answer = answer; ends = noEnds }) gathered
+-- an answer of the replay's own: the manager as it was
+abbrev pub answeredWith : Answer → ℕ → Applied
+answeredWith answer gathered = andHeld (Turning.Changes (same answer)) gathered
 
 -- what a gather came to
-abbrev pub gatheredAs : SdoClientManager → Gathered → Applied
-gatheredAs m g = answeredWith m (g .answer) (g .gathered)
+abbrev pub gatheredAs : Gathered → Applied
+gatheredAs g = answeredWith (g .answer) (g .gathered)
 
-abbrev pub refusedWith : SdoClientManager → Refusal → ℕ → Applied
-refusedWith m r held = answeredWith m (Answer.Refused r) held
+abbrev pub refusedWith : Refusal → ℕ → Applied
+refusedWith r held = answeredWith (Answer.Refused r) held
 
--- what an operation comes to: its answer and what is gathered after it, the store, the gather's bytes and the output
+-- what an operation comes to: what it changes and what is gathered after it, the store, the gather's bytes and the output
 abbrev pub performed : Operation → Record → SdoClientManager → ℕ → Now → Bytes → Bytes → Bytes → Bytes → Applied
 performed (Operation.Uses u) r m held n own store gather output =
-    andHeld (useDone u r m n (usedBytes gather held own) store) 0
+    andHeld (Turning.Changes (useChange u r m n (usedBytes gather held own) store)) 0
 performed Operation.Read r m held n own store gather output =
-    andHeld (startDone m (r .node) (reads (r .index) (r .«sub_index»)) n store) held
-performed (Operation.Turns t) r m held n own store gather output = andHeld (turnOf t m n store output) held
-performed Operation.Gather r m held n own store gather output = gatheredAs m (gatheredWith held (length own))
+    andHeld (Turning.Changes (startingOf m (r .node) (reads (r .index) (r .«sub_index»)) n store)) held
+performed (Operation.Turns t) r m held n own store gather output = andHeld (turningOf t m n store output) held
+performed Operation.Gather r m held n own store gather output = gatheredAs (gatheredWith held (length own))
 
 abbrev pub storeAfter : Operation → Record → SdoClientManager → ℕ → Now → Bytes → Bytes → Bytes → Bytes
 storeAfter (Operation.Uses u) r m held n own store gather = useStore u r m n (usedBytes gather held own) store
@@ -106,7 +97,7 @@ gatherAfter Operation.Gather held own gather = moreGathered gather held own
 abbrev pub outputAfter : Operation → SdoClientManager → Now → Bytes → Bytes → Bytes
 outputAfter (Operation.Uses u) m n store output = output
 outputAfter Operation.Read m n store output = output
-outputAfter (Operation.Turns t) m n store output = turnOutput t m n store output
+outputAfter (Operation.Turns t) m n store output = turningOutput t m n store output
 outputAfter Operation.Gather m n store output = output
 
 -- the time of a record, with the two parameters
@@ -115,7 +106,7 @@ whenOf r timeout retries = record { time = r .time; timeout = timeout; retries =
 
 -- a record that is read is performed; any other has its refusal
 abbrev pub appliedAs : RecordRead → SdoClientManager → ℕ → Bytes → Parameter → Parameter → Bytes → Bytes → Bytes → Applied
-appliedAs (RecordRead.Refused why) m held b timeout retries store gather output = refusedWith m why held
+appliedAs (RecordRead.Refused why) m held b timeout retries store gather output = refusedWith why held
 appliedAs (RecordRead.Record r) m held b timeout retries store gather output =
     performed (r .operation) r m held (whenOf r timeout retries) (ownData b r) store gather output
 
@@ -137,7 +128,7 @@ outputAs (RecordRead.Record r) m timeout retries store output =
 unfoldable pub appliedOf : SdoClientManager → ℕ → Bytes → Parameter → Parameter → Bytes → Bytes → Bytes → Applied
 appliedOf m gathered b timeout retries store gather output =
     pick (ltb (length gather) gatherSize)
-    (refusedWith m Refusal.BufferTooShort (heldBytes gathered))
+    (refusedWith Refusal.BufferTooShort (heldBytes gathered))
     (appliedAs (recordRead b) m (heldBytes gathered) b timeout retries store gather output)
 
 unfoldable pub appliedStore : SdoClientManager → ℕ → Bytes → Parameter → Parameter → Bytes → Bytes → Bytes

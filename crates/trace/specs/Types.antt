@@ -8,12 +8,13 @@ pub use Rattle.codec.specs.declared.sequence.SequenceRead.{SequenceRead}
 pub use Rattle.sdo.specs.declared.Now.{Now}
 pub use Rattle.sdo.specs.declared.Parameter.{Parameter}
 pub use Rattle.manager.specs.declared.types.Answer.{Answer}
+pub use Rattle.manager.specs.declared.types.Change.{Change}
 pub use Rattle.manager.specs.declared.types.Done.{Done}
+pub use Rattle.manager.specs.declared.types.Turning.{Turning}
 pub use Rattle.table.specs.declared.types.SdoClientManager.{SdoClientManager}
 pub use Rattle.table.specs.declared.types.Turn.{Turn}
 pub use Rattle.trace.specs.declared.apply.Applied.{Applied}
 pub use Rattle.trace.specs.declared.gather.Gathered.{Gathered}
-pub use Rattle.trace.specs.declared.gather.Gathering.{Gathering}
 pub use Rattle.trace.specs.declared.record.Operation.{Operation}
 pub use Rattle.trace.specs.declared.record.OperationRead.{OperationRead}
 pub use Rattle.trace.specs.declared.record.Record.{Record}

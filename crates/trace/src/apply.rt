@@ -5,7 +5,7 @@ ghost use lib.ListN.{length};
 ghost use Rattle.trace.specs.Replay.{
   replyHeader,
   replyCommand,
-  useDone,
+  useChange,
   useStore,
   answeredWith,
   gatheredAs,
@@ -38,35 +38,34 @@ use codec::sequence::ReceiveConnState;
 use codec::sequence::SendConnState;
 use codec::sequence::SequenceLayerHeader;
 use codec::sequence::SequenceRead;
-use manager::ask::turn;
-use manager::reply::handle_response;
-use manager::start::read_object_by_index;
-use manager::start::start_configuration_download;
-use manager::start::write_object_by_index;
+use manager::ask::turning;
+use manager::change::same;
+use manager::reply::replying;
+use manager::start::loading;
+use manager::start::reading;
+use manager::start::writing;
 use manager::types::Answer;
-use manager::types::Done;
+use manager::types::Change;
+use manager::types::Turning;
 use sdo::Now;
 use sdo::Parameter;
 use sdo::numbers::at_most;
 use table::types::SdoClientManager;
-use table::types::no_ends;
 
-// What a record came to: the library's answer, and how many bytes are gathered after it.
+// What a record comes to: what it changes of the manager, and how many bytes are gathered after it.
 pub struct Applied {
-    pub done: Done,
+    pub changes: Turning,
     pub gathered: usize,
 }
 
-fn answered(m: SdoClientManager, answer: Answer, gathered: usize) -> Applied
-    ensures { λ r. ⌜ r ≡ answeredWith m answer gathered ⌝ }
+// An answer of the replay's own: the manager stays.
+fn answered(answer: Answer, gathered: usize) -> Applied
+    ensures { λ r. ⌜ r ≡ answeredWith answer gathered ⌝ }
 {
-    let ends = no_ends();
-    let done = Done {
-        manager: m,
-        answer,
-        ends,
-    };
-    Applied { done, gathered }
+    Applied {
+        changes: Turning::Changes(same(answer)),
+        gathered,
+    }
 }
 
 fn reply_header(index: u16) -> SequenceLayerHeader
@@ -116,7 +115,7 @@ fn reply_command(flags: u8) -> SdoCommand
     }
 }
 
-// The library's call of operations 1, 3 and 4.
+// What the library's call of operations 1, 3 and 4 changes.
 fn use_bytes(
     u: Use,
     r: Record,
@@ -124,28 +123,28 @@ fn use_bytes(
     when: Now,
     bytes: &[u8],
     store: &mut [u8],
-) -> Done
-    ensures { λ d. ⌜ d ≡ useDone u r m «when» (now (bytes .entry)) (now (store .entry)) ⌝ }
+) -> Change
+    ensures { λ c. ⌜ c ≡ useChange u r m «when» (now (bytes .entry)) (now (store .entry)) ⌝ }
     ensures { λ _. ⌜ now (store .exit) ≡ useStore u r m «when» (now (bytes .entry)) (now (store .entry)) ⌝ }
 {
     match u {
         Use::Write => {
-            return write_object_by_index(m, r.node, r.index, r.sub_index, bytes, when, store);
+            return writing(m, r.node, r.index, r.sub_index, bytes, when, store);
         }
-        Use::Dcf => return start_configuration_download(m, r.node, bytes, when, store),
+        Use::Dcf => return loading(m, r.node, bytes, when, store),
         Use::Reply => {
             let seq = reply_header(r.index);
             let cmd = reply_command(r.flags);
-            return handle_response(m, r.node, seq, cmd, bytes, store);
+            return replying(m, r.node, seq, cmd, bytes, store);
         }
     }
 }
 
-fn gathered_as(m: SdoClientManager, g: Gathered) -> Applied
-    ensures { λ r. ⌜ r ≡ gatheredAs m g ⌝ }
+fn gathered_as(g: Gathered) -> Applied
+    ensures { λ r. ⌜ r ≡ gatheredAs g ⌝ }
 {
     let answer = g.answer;
-    answered(m, answer, g.gathered)
+    answered(answer, g.gathered)
 }
 
 fn perform(
@@ -170,27 +169,27 @@ fn perform(
             put(gather, held, own);
             let n = held + own.len();
             return Applied {
-                done: use_bytes(u, r, m, when, part(gather, 0, n), store),
+                changes: Turning::Changes(use_bytes(u, r, m, when, part(gather, 0, n), store)),
                 gathered: 0,
             };
         }
         Operation::Read => {
             return Applied {
-                done: read_object_by_index(m, r.node, r.index, r.sub_index, when, store),
+                changes: Turning::Changes(reading(m, r.node, r.index, r.sub_index, when, store)),
                 gathered: held,
             };
         }
         Operation::Turns(t) => {
             return Applied {
-                done: turn(t, m, when, store, output),
+                changes: turning(t, m, when, store, output),
                 gathered: held,
             };
         }
-        Operation::Gather => return gathered_as(m, gather_more(held, own, gather)),
+        Operation::Gather => return gathered_as(gather_more(held, own, gather)),
     }
 }
 
-// Applies the record in the first 32 bytes: the manager's call, or a gather. 11 and 10 as of read_record, 7 for a gather past 4,096 bytes,
+// What the record in the first 32 bytes comes to: the manager's call, or a gather. 11 and 10 as of read_record, 7 for a gather past 4,096 bytes,
 // 1 for a gather buffer under 4,112; then nothing has happened. Every other refusal is the library's own.
 pub fn apply(
     m: SdoClientManager,
@@ -209,10 +208,10 @@ pub fn apply(
 {
     let held = at_most(gathered, 4096);
     if gather.len() < 4112 {
-        return answered(m, Answer::Refused(Refusal::BufferTooShort), held);
+        return answered(Answer::Refused(Refusal::BufferTooShort), held);
     }
     match read_record(b) {
-        RecordRead::Refused(r) => return answered(m, Answer::Refused(r), held),
+        RecordRead::Refused(r) => return answered(Answer::Refused(r), held),
         RecordRead::Record(r) => {
             let when = Now {
                 time: r.time,

@@ -1,23 +1,12 @@
--- `manager::start::read_object_by_index` meets its contract: the seat, and its connection's own answer. Assumes nothing.
-use mathlib.Core.Path.{refl}
-use Rattle.manager.specs.Calls.{reads}
-use Rattle.manager.proofs.Turning.{start-on, start-refused, target-place}
+-- `manager::start::read_object_by_index` meets its contract: a start is its change, done. Assumes nothing.
+use mathlib.Core.Path.{_∙_}
+use Rattle.manager.proofs.Changing.{start-changes}
 use borrow.Author.Needs.{needs}
 use Rattle.manager.proofs.start.read_object_by_index.Statement.{statement}
 use Rattle.manager.proofs.start.read_object_by_index.Tie as tie
 
-started-requires : tie.Need-started-requires
-started-requires c κs = target-place _ _ _ (c .before .before .before .before .before .before .target-of .ensures)
-
 returns : tie.Need-returns
-returns c =
-    let a = c .before .before .before .before .before .before .before .before .before .args in
-    (start-on _ (a .store .now) _ (c .before .before .before .before .before .seat-of .ensures) (a .m) _ (reads (a .index) (a .sub-index)) (a .when) (c .before .before .before .before .before .before .before .target-of .ensures) _ _ _ _ _ (c .before .before .before .c .given .1) (c .before .before .before .before .before .before .next-transaction .ensures) (c .before .start-read-job .ensures) (c .started .ensures) refl) .0
-
-returns-2 : tie.Need-returns-2
-returns-2 c =
-    let a = c .before .before .before .before .before .before .before .before .args in
-    (start-refused _ (a .store .now) _ (c .before .before .before .before .seat-of .ensures) (a .m) _ (reads (a .index) (a .sub-index)) (a .when) (c .before .before .before .before .before .before .target-of .ensures) _ _ (c .before .before .r .given .1) (c .refusing .ensures)) .0
+returns c = c .changed .ensures ∙ rw (c .before .reading .ensures) (start-changes _ _ _ _ _)
 
 pub read-object-by-index-spec : {M : Type 1} → statement M
 read-object-by-index-spec =
@@ -25,11 +14,4 @@ read-object-by-index-spec =
     (tie.spec
     (λ c κs. search needs)
     (λ c κs. search needs)
-    (λ c κs. search needs)
-    (λ c. search needs)
-    (λ c κs. search needs)
-    started-requires
-    (λ c. search needs)
-    (λ c κs. search needs)
-    returns
-    returns-2)
+    returns)

@@ -2,7 +2,7 @@
 use mathlib.Core.Path.{refl}
 use Rattle.laws.proofs.Answers.{told}
 use Rattle.laws.proofs.Picks.{is, is-not}
-use Rattle.manager.specs.Calls.{seatAt, seatOf}
+use Rattle.manager.specs.Change.{seatAt, seatOf}
 use borrow.Author.Needs.{needs}
 use Rattle.manager.proofs.start.seat_of.Statement.{statement}
 use Rattle.manager.proofs.start.seat_of.Tie as tie

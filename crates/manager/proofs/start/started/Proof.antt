@@ -1,32 +1,29 @@
--- `manager::start::started` meets its contract: each answer of the connection is one case of `startedBy`. Assumes nothing.
+-- `manager::start::started` meets its contract: each answer of the connection is one case of `startingBy`. Assumes nothing.
 use mathlib.Core.Path.{refl, _∙_}
 use Rattle.laws.proofs.Answers.{told}
-use Rattle.manager.specs.Calls.{startedBy}
-use Rattle.manager.proofs.Turning.{refused-number, refused-plain}
+use Rattle.laws.proofs.Picks.{fails, holds}
+use Rattle.manager.specs.Change.{startingBy}
 use borrow.Author.Needs.{needs}
 use Rattle.manager.proofs.start.started.Statement.{statement}
 use Rattle.manager.proofs.start.started.Tie as tie
 
 returns : tie.Need-returns
-unfolding startedBy
 returns c =
-    let a = c .before .before .before .before .before .before .before .args in
-    told (λ x. startedBy x (a .t) (a .m)) refl (c .before .before .before .before .before .a2 .given .1)
-    (refused-number _ _ _ _ _ _ (c .refusing .ensures) (c .before .numbered .ensures) (c .before .before .before .takes-number .ensures) (c .before .before .if1 .taken))
+    let a = c .before .before .before .before .before .args in
+    told (λ x. startingBy x (a .t)) refl (c .before .before .before .a .given .1)
+    (c .taking .ensures ∙ rw (c .before .entry-of .ensures))
 
 returns-2 : tie.Need-returns-2
-unfolding startedBy
 returns-2 c =
-    let a = c .before .before .before .before .before .args in
-    told (λ x. startedBy x (a .t) (a .m)) refl (c .before .before .before .a .given .1)
-    (c .nothing-done .ensures ∙ rw (c .before .entered .ensures))
+    let a = c .before .before .before .before .before .before .before .args in
+    told (λ x. startingBy x (a .t)) refl (c .before .before .before .before .before .a2 .given .1)
+    (holds _ _ (c .before .before .before .takes-number .ensures) (c .before .before .if1 .taken) (c .taking2 .ensures ∙ rw (c .before .idle-of .ensures)))
 
 returns-3 : tie.Need-returns-3
-unfolding startedBy
 returns-3 c =
     let a = c .before .before .before .before .before .before .args in
-    told (λ x. startedBy x (a .t) (a .m)) refl (c .before .before .before .before .a2 .given .1)
-    (refused-plain _ _ _ _ _ (c .refusing2 .ensures) (c .before .before .takes-number .ensures) (c .before .if1 .left))
+    told (λ x. startingBy x (a .t)) refl (c .before .before .before .before .a2 .given .1)
+    (fails _ _ (c .before .before .takes-number .ensures) (c .before .if1 .left) (c .same .ensures))
 
 pub started-spec : {M : Type 1} → statement M
 started-spec =
@@ -35,11 +32,11 @@ started-spec =
     (λ c. search needs)
     (λ c κs. search needs)
     (λ c κs. search needs)
+    returns
     (λ c. search needs)
     (λ c κs. search needs)
     (λ c κs. search needs)
     (λ c κs. search needs)
-    returns
-    (λ c κs. search needs)
     returns-2
+    (λ c κs. search needs)
     returns-3)

@@ -1,25 +1,14 @@
--- `manager::start::write_object_by_index` meets its contract: the seat, and its connection's own answer. Assumes nothing.
-use Rattle.manager.specs.Calls.{writes}
-use Rattle.manager.proofs.Turning.{seat-sized, start-on, start-refused, target-place}
+-- `manager::start::write_object_by_index` meets its contract: a start is its change, done. Assumes nothing.
+use mathlib.Core.Path.{_∙_}
+use Rattle.manager.proofs.Changing.{start-changes}
 use borrow.Author.Needs.{needs}
 use Rattle.manager.proofs.start.write_object_by_index.Statement.{statement}
 use Rattle.manager.proofs.start.write_object_by_index.Tie as tie
 
-write-in-requires : tie.Need-write-in-requires
-write-in-requires c κs = seat-sized _ (c .before .before .before .before .before .before .before .before .before .args .store .now) _ (c .before .before .before .before .seat-of .ensures) _ (c .before .before .c .given .1)
-
-started-requires : tie.Need-started-requires
-started-requires c κs = target-place _ _ _ (c .before .before .before .before .before .before .before .before .before .target-of .ensures)
-
 returns : tie.Need-returns
 returns c =
-    let a = c .before .before .before .before .before .before .before .before .before .before .before .before .before .args in
-    start-on _ (a .store .now) _ (c .before .before .before .before .before .before .before .before .seat-of .ensures) (a .m) _ (writes (a .index) (a .sub-index) (a .bytes .now)) (a .when) (c .before .before .before .before .before .before .before .before .before .before .target-of .ensures) _ _ _ _ _ (c .before .before .before .before .before .before .c .given .1) (c .before .before .before .before .before .before .before .before .before .next-transaction .ensures) (c .before .before .before .write-in .ensures .0) (c .started .ensures) (c .before .before .before .write-in .ensures .1)
-
-returns-2 : tie.Need-returns-2
-returns-2 c =
-    let a = c .before .before .before .before .before .before .before .before .before .args in
-    start-refused _ (a .store .now) _ (c .before .before .before .before .seat-of .ensures) (a .m) _ (writes (a .index) (a .sub-index) (a .bytes .now)) (a .when) (c .before .before .before .before .before .before .target-of .ensures) _ _ (c .before .before .r .given .1) (c .refusing .ensures)
+    let e = c .before .before .before .writing .ensures in
+    (c .changed .ensures ∙ rw (e .0) (start-changes _ _ _ _ _), e .1)
 
 pub write-object-by-index-spec : {M : Type 1} → statement M
 write-object-by-index-spec =
@@ -27,12 +16,5 @@ write-object-by-index-spec =
     (tie.spec
     (λ c κs. search needs)
     (λ c κs. search needs)
-    (λ c κs. search needs)
     (λ c. search needs)
-    write-in-requires
-    started-requires
-    (λ c. search needs)
-    (λ c κs. search needs)
-    (λ c. search needs)
-    returns
-    returns-2)
+    returns)

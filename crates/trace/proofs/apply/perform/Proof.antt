@@ -23,13 +23,13 @@ returns-2 : tie.Need-returns-2
 returns-2 c =
     let a = c .before .before .before .before .before .before .before .before .args in
     comes (a .r) (a .m) (a .held) (a .when) (a .own .now) (a .store .now) (a .gather .now) (a .output .now) (c .before .before .enum-told .given .1)
-    (rw (c .read-object-by-index .ensures), (refl, (refl, refl)))
+    (rw (c .reading .ensures), (refl, (refl, refl)))
 
 returns-3 : tie.Need-returns-3
 returns-3 c =
     let a = c .before .before .before .before .before .before .before .before .before .before .before .before .args in
     comes (a .r) (a .m) (a .held) (a .when) (a .own .now) (a .store .now) (a .gather .now) (a .output .now) (c .before .before .before .before .before .before .operation2 .given .1)
-    (rw (c .before .before .turn .ensures .0), (refl, (refl, c .before .before .turn .ensures .1)))
+    (rw (c .before .before .turning .ensures .0), (refl, (refl, c .before .before .turning .ensures .1)))
 
 returns-4 : tie.Need-returns-4
 returns-4 c =

@@ -1,4 +1,4 @@
-// A record applied to a manager and its store.
+// A record applied to a store, and what it changes of the manager.
 ghost use mathlib.Core.Path.{_≡_};
 ghost use Prim.Native.Nat.{_≤_};
 ghost use lib.ListN.{length};

@@ -10,6 +10,7 @@ use Rattle.laws.proofs.Picks.{below, beyond, not-below, within}
 use Rattle.codec.specs.Bytes.{Bytes, partAt}
 use Rattle.codec.proofs.Reading.{part-inside}
 use Rattle.lines.specs.Line.{
+  Short,
   answerText,
   byteText,
   endsText,
@@ -51,18 +52,18 @@ module _ (s : SentTo) (output : Bytes) {n : ℕ} (e : n ≡ min (s .command .hea
 -- a line refused, and written by its four texts, one behind the other
 module _ (out : Bytes) (at : ℕ) where
   pub line-refused : (line : Bytes) → length out < at + mostLine
-      → (Written.Refused Refusal.BufferTooShort ≡ lineAnswer out at line) × (out ≡ lineBuffer out at line)
+      → (Written.Refused Refusal.BufferTooShort ≡ lineAnswer out at line) × ((out ≡ lineBuffer out at line) × Short (Written.Refused Refusal.BufferTooShort))
   unfolding lineAnswer lineBuffer
-  line-refused line h = (beyond _ _ _ _ h refl, beyond _ _ _ _ h refl)
+  line-refused line h = (beyond _ _ _ _ h refl, (beyond _ _ _ _ h refl, tt))
 
   pub line-written : {first second third after : Bytes} {i j k end : ℕ} (number : ℕ) (b : Bytes) (answer : Answer) (ends : Ends) (output : Bytes)
       → at + mostLine ≤ length out → Put out at (recordText number b) first i → Put first i (answerText answer output) second j
-      → Put second j (endsText (take (ends .count) (ends .list))) third k → Put third k (newline ∷ []) after end
+      → Put second j (endsText (take (ends .count) (ends .list))) third k → Put third k (newline ∷ []) after end → end ≤ at + mostLine
       → (Written.Bytes (end - at) ≡ lineAnswer out at (lineOf number b answer ends output))
-      × (after ≡ lineBuffer out at (lineOf number b answer ends output))
+      × ((after ≡ lineBuffer out at (lineOf number b answer ends output)) × Short (Written.Bytes (end - at)))
   unfolding lineAnswer lineBuffer lineOf
-  line-written {end = end} number b answer ends output h p q r s =
+  line-written {end = end} number b answer ends output h p q r s short =
       let w = puts (puts (puts p q) r) s in
       let f = w .ends in
       let e : end - at ≡ length (lineOf number b answer ends output) = omega arith in
-      (within _ _ _ _ h (ap Written.Bytes e), within _ _ _ _ h (w .bytes))
+      (within _ _ _ _ h (ap Written.Bytes e), (within _ _ _ _ h (w .bytes), omega arith))

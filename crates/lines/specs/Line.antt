@@ -1,6 +1,6 @@
 -- A line (document 01, "Replay"): record number, operation, refusal or 0, node sent to, bytes sent in hex (sequence, command), ends as
 -- node:letter:delivered joined by commas; `-` for nothing.
-use Prim.Native.Nat.{ℕ, min, _+_}
+use Prim.Native.Nat.{ℕ, min, _+_, _≤_}
 use mathlib.Core.List.{List, [], _∷_, _++_}
 use lib.Dec.{ltb, leb}
 use lib.ListN.{length, getD, take}
@@ -101,6 +101,10 @@ lineOf number b answer ends output =
 -- A line has at most 4,096 bytes; where fewer are free from its place on it is refused, and nothing is written.
 abbrev pub mostLine : ℕ
 mostLine = 4096
+
+abbrev pub Short : Written → Type 0
+Short (Written.Bytes n) = n ≤ mostLine
+Short (Written.Refused r) = Unit {0}
 
 unfoldable pub lineAnswer : Bytes → ℕ → Bytes → Written
 lineAnswer out at line =

@@ -14,6 +14,7 @@ ghost use Rattle.lines.specs.Line.{
   recordText,
   answerText,
   lineOf,
+  Short,
   lineAnswer,
   lineBuffer,
 };
@@ -215,6 +216,7 @@ pub fn write_line(
 ) -> Written
     ensures { λ r. ⌜ r ≡ lineAnswer (now (out .entry)) at (lineOf number (now (b .entry)) answer ends (now (output .entry))) ⌝ }
     ensures { λ _. ⌜ now (out .exit) ≡ lineBuffer (now (out .entry)) at (lineOf number (now (b .entry)) answer ends (now (output .entry))) ⌝ }
+    ensures { λ r. ⌜ Short r ⌝ }
 {
     if out.len() < at {
         return Written::Refused(Refusal::BufferTooShort);
@@ -240,6 +242,7 @@ pub fn write_quiet_line(
 ) -> Written
     ensures { λ r. ⌜ r ≡ lineAnswer (now (out .entry)) at (lineOf number (now (b .entry)) answer noEnds (now (output .entry))) ⌝ }
     ensures { λ _. ⌜ now (out .exit) ≡ lineBuffer (now (out .entry)) at (lineOf number (now (b .entry)) answer noEnds (now (output .entry))) ⌝ }
+    ensures { λ r. ⌜ Short r ⌝ }
 {
     if out.len() < at {
         return Written::Refused(Refusal::BufferTooShort);

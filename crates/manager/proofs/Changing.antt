@@ -20,11 +20,12 @@ use Rattle.table.specs.Sweep.{noEnds}
 use Rattle.table.specs.Table.{blank, findIn, freeRoom, heldAt, live, oneFurther, storeSize, targetAt, targetOf}
 use Rattle.table.specs.Walk.{Walking, refused, through, stopped, passed, stopOr, turned, walkStep, walkList}
 use Rattle.manager.specs.Calls.{Job, jobRoom, leaving, numberOf, refusing, repliedAs, replyAt, replyDone, roomIn, sentTo, startAt, startDone, startJob, startStore, startStoreAt, startedHeld, startedNew, takesNumber, turnOf, turnOutput, walkedOutput, walkedTo, withRoom}
-use Rattle.manager.specs.Change.{Tells, changedBy, enteredAt, givenBy, givenOutput, numberAfter, outputAt, outputBy, putting, replyingAs, replyingAt, replyingOf, same, seatAt, seatOf, startingBy, startingOf, startingOn, turningAt, turningBy, turningOf, turningOutput}
+use Rattle.manager.specs.Change.{changedBy, doneBy, doneOutput, enteredAt, givenBy, givenOutput, numberAfter, outputAt, outputBy, putting, replyingAs, replyingAt, replyingOf, same, seatAt, seatOf, startingBy, startingOf, startingOn, turningAt, turningBy, turningOf, turningOutput}
 use Rattle.manager.specs.Types.{
   Answer,
   Change,
   Changed,
+  Done,
   Entry,
   Found,
   Now,
@@ -92,7 +93,7 @@ module _ (t : Turn) (n : Now) where
 
 -- ---- a call is its change, done
 
-same-done : (m : SdoClientManager) (a : Answer) → changedBy m (same a) ≡ record { manager = m; answer = a; ends = noEnds }
+pub same-done : (m : SdoClientManager) (a : Answer) → changedBy m (same a) ≡ record { manager = m; answer = a; ends = noEnds }
 unfolding changedBy enteredAt numberAfter pick
 same-done m a = refl
 
@@ -103,36 +104,46 @@ put-done m k d a = rw (live-table (set (live m) k d) (m .«next_transaction_id»
 
 -- a tick or an ask
 module _ (t : Turn) (m : SdoClientManager) (n : Now) (store output : Bytes) where
+  -- what is told of one and the output then come, done, to what a walk comes to
+  abbrev Does : Turning → Bytes → Done → Bytes → Type 0
+  Does told out done left = (doneBy told m store out ≡ done) × (doneOutput told m store out ≡ left)
+
   given-turns : (s : Sends) (d : SdoClientConnection) (k : ℕ) (w : Walking) → k < length (live m) → Given s d k (live m) w
-      → Tells (givenBy s d t k n) m (walkedTo m w) (walkedOutput w store output) (givenOutput s d store output) output
-  given-turns (Sends.Gives o) d k w h e =
+      → Does (Turning.Several t n) output (walkedTo m w) (walkedOutput w store output)
+      → Does (givenBy s d t k n) (givenOutput s d store output) (walkedTo m w) (walkedOutput w store output)
+  given-turns (Sends.Gives o) d k w h e by =
       let same : getD (set (live m) k d) k blank ≡ d = getD-set-same (live m) k d blank h in
-      rw e (rw same (put-done m k d (sentTo d o)), rw same refl)
-  given-turns Sends.Silent d k w h e = refl
+      rw e (rw same (sym (put-done m k d (sentTo d o))), rw same refl)
+  given-turns Sends.Silent d k w h e by = by
 
   came-turns : (a : Stepped) (k : ℕ) (w : Walking) → k < length (live m) → Came a k (live m) w
-      → Tells (turningBy a t k n) m (walkedTo m w) (walkedOutput w store output) (outputBy a store output) output
-  came-turns (Stepped.Refused r) k w h e = rw e (sym (same-done m (Answer.Refused r)), refl)
-  came-turns (Stepped.Went s) k w h e = given-turns (s .sends) (s .connection) k w h e
+      → Does (Turning.Several t n) output (walkedTo m w) (walkedOutput w store output)
+      → Does (turningBy a t k n) (outputBy a store output) (walkedTo m w) (walkedOutput w store output)
+  came-turns (Stepped.Refused r) k w h e by = rw e (same-done m (Answer.Refused r), refl)
+  came-turns (Stepped.Went s) k w h e by = given-turns (s .sends) (s .connection) k w h e by
 
   walks-turns : (f : Found) (w : Walking) → Within (length (live m)) f → Walks f t n (live m) w
-      → Tells (turningAt f t m n) m (walkedTo m w) (walkedOutput w store output) (outputAt f t m n store output) output
+      → Does (Turning.Several t n) output (walkedTo m w) (walkedOutput w store output)
+      → Does (turningAt f t m n) (outputAt f t m n store output) (walkedTo m w) (walkedOutput w store output)
   unfolding changedBy enteredAt numberAfter pick
-  walks-turns Found.Absent w h e = rw e (refl, refl)
-  walks-turns (Found.At k) w h e = came-turns (turned t (heldAt m k) n) k w h e
+  walks-turns Found.Absent w h e by = rw e (refl, refl)
+  walks-turns (Found.At k) w h e by = came-turns (turned t (heldAt m k) n) k w h e by
 
-  pub turn-changes : Tells (turningOf t m n store output) m (turnOf t m n store output) (turnOutput t m n store output) (turningOutput t m n store output) output
+  pub turn-changes : Does (turningOf t m n store output) (turningOutput t m n store output) (turnOf t m n store output) (turnOutput t m n store output)
   unfolding turnOf turnOutput turningOf turningOutput pick
-  turn-changes = go (eqb (length store) storeSize) (ltb (length output) 1452)
+  turn-changes = go (eqb (length store) storeSize) refl (ltb (length output) 1452) refl
     where
-      go : (size short : Bool)
-          → Tells (pick size (pick short (Turning.Changes (same (Answer.Refused Refusal.BufferTooShort))) (turningAt (dueIn t n (live m)) t m n)) (Turning.Changes (same (Answer.Refused Refusal.WrongStore)))) m
+      go : (size : Bool) → eqb (length store) storeSize ≡ size → (short : Bool) → ltb (length output) 1452 ≡ short
+          → Does
+          (pick size (pick short (Turning.Changes (same (Answer.Refused Refusal.BufferTooShort))) (turningAt (dueIn t n (live m)) t m n)) (Turning.Changes (same (Answer.Refused Refusal.WrongStore))))
+          (pick size (pick short output (outputAt (dueIn t n (live m)) t m n store output)) output)
           (pick size (pick short (refusing m Refusal.BufferTooShort) (walkedTo m (walkList t n (live m)))) (refusing m Refusal.WrongStore))
           (pick size (pick short output (walkedOutput (walkList t n (live m)) store output)) output)
-          (pick size (pick short output (outputAt (dueIn t n (live m)) t m n store output)) output) output
-      go false short = (sym (same-done m (Answer.Refused Refusal.WrongStore)), refl)
-      go true true = (sym (same-done m (Answer.Refused Refusal.BufferTooShort)), refl)
-      go true false = walks-turns (dueIn t n (live m)) (walkList t n (live m)) (due-within t n (live m)) (due-walks t n (live m))
+      go false e short f = (same-done m (Answer.Refused Refusal.WrongStore), refl)
+      go true e true f = (same-done m (Answer.Refused Refusal.BufferTooShort), refl)
+      go true e false f =
+          walks-turns (dueIn t n (live m)) (walkList t n (live m)) (due-within t n (live m)) (due-walks t n (live m))
+          (rw (e, f) refl, rw (e, f) refl)
 
 -- a reply
 pub reply-changes : (m : SdoClientManager) (node : ℕ) (seq : SequenceLayerHeader) (cmd : SdoCommand) (payload store : Bytes)

@@ -1,7 +1,6 @@
 -- What a call changes, where it changes one connection at most. A call is its change, done: `changedBy m` of what it changes is what Calls
--- says of it, for any manager (theorems' InPlace says how a host does it in place).
+-- says of it, for any manager.
 use Prim.Native.Nat.{ℕ}
-use mathlib.Core.Path.{_≡_}
 use mathlib.Core.Bool.{true, false}
 use lib.Dec.{ltb, eqb}
 use lib.ListN.{length, set}
@@ -15,7 +14,7 @@ use Rattle.table.specs.Resting.{dueIn}
 use Rattle.table.specs.Sweep.{noEnds}
 use Rattle.table.specs.Table.{findIn, heldAt, insertIn, live, storeSize, tableOf, targetOf}
 use Rattle.table.specs.Walk.{turned}
-use Rattle.manager.specs.Calls.{Job, leaving, numberOf, roomIn, sentTo, startJob, takesNumber}
+use Rattle.manager.specs.Calls.{Job, leaving, numberOf, roomIn, sentTo, startJob, takesNumber, turnOf, turnOutput}
 use Rattle.manager.specs.Types.{
   Answer,
   Change,
@@ -109,10 +108,14 @@ turningOutput t m n store output =
     (pick (ltb (length output) 1452) output (outputAt (dueIn t n (live m)) t m n store output))
     output
 
--- how a tick or an ask is told: what it changes, done, is the call; where several connections may change nothing was written yet
-abbrev pub Tells : Turning → SdoClientManager → Done → Bytes → Bytes → Bytes → Type 0
-Tells (Turning.Changes c) m d left output before = (d ≡ changedBy m c) × (left ≡ output)
-Tells (Turning.Several t n) m d left output before = output ≡ before
+-- what is told of a call, done, and the output after it: its change, or the call by value
+abbrev pub doneBy : Turning → SdoClientManager → Bytes → Bytes → Done
+doneBy (Turning.Changes c) m store output = changedBy m c
+doneBy (Turning.Several t n) m store output = turnOf t m n store output
+
+abbrev pub doneOutput : Turning → SdoClientManager → Bytes → Bytes → Bytes
+doneOutput (Turning.Changes c) m store output = output
+doneOutput (Turning.Several t n) m store output = turnOutput t m n store output
 
 -- ---- reply
 

@@ -9,9 +9,10 @@ ghost use Rattle.manager.specs.Calls.{
   turnOutput,
 };
 ghost use lib.ListN.{length};
-ghost use Rattle.manager.specs.Change.{turningBy, outputBy, turningOf, turningOutput};
+ghost use Rattle.manager.specs.Change.{turningBy, outputBy, turningOf, turningOutput, doneBy, doneOutput};
 ghost use Rattle.table.specs.Walk.{turned as turnedOf};
 ghost use Rattle.table.specs.Table.{live};
+use crate::change::changed;
 use crate::change::putting;
 use crate::change::same;
 use crate::enter::first_of;
@@ -153,6 +154,17 @@ pub fn turning(t: Turn, m: SdoClientManager, n: Now, store: &[u8], output: &mut 
         }
     }
     Turning::Changes(same(Answer::Refused(Refusal::WrongStore)))
+}
+
+// What was told of a call, done: its change, or the call by value where several connections may change.
+pub fn done(m: SdoClientManager, changes: Turning, store: &[u8], output: &mut [u8]) -> Done
+    ensures { λ d. ⌜ d ≡ doneBy changes m (now (store .entry)) (now (output .entry)) ⌝ }
+    ensures { λ _. ⌜ now (output .exit) ≡ doneOutput changes m (now (store .entry)) (now (output .entry)) ⌝ }
+{
+    match changes {
+        Turning::Changes(c) => return changed(m, c),
+        Turning::Several(t, n) => return turn(t, m, n, store, output),
+    }
 }
 
 fn sent_to(c: SdoClientConnection, o: Outgoing) -> Answer

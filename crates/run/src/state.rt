@@ -5,10 +5,8 @@ use libc::STDOUT_FILENO;
 use manager::next::next_action_time;
 use sdo::Deadline;
 use sdo::LoadedTransfer;
-use sdo::Reason;
 use sdo::SdoClientConnection;
 use sdo::SdoClientConnectionState;
-use table::types::Ends;
 use table::types::SdoClientManager;
 
 // An upload that a reply may end: its room, and how many bytes it will have brought.
@@ -167,25 +165,6 @@ pub(crate) fn upload_before(m: SdoClientManager, gathered: usize, b: &[u8]) -> U
         i += 1;
     }
     Upload::Nothing
-}
-
-pub(crate) fn complete(e: Ends, node: u8) -> bool {
-    let list = e.list;
-    let mut i: usize = 0;
-    while i < 8 {
-        if e.count <= i {
-            break;
-        }
-        let end = list[i];
-        let reason = end.reason;
-        if end.node == node {
-            if let Reason::Complete = reason {
-                return true;
-            }
-        }
-        i += 1;
-    }
-    false
 }
 
 // What an upload brought, where the reply ended it Complete.

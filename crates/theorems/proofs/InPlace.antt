@@ -1,4 +1,4 @@
--- A call is its change, done, and a change of a sound manager done in place is that change. Assumes nothing.
+-- A call is its change, done, and a change of a neat manager done in place is that change. Assumes nothing.
 use Prim.Native.Nat.{ℕ, _-_, _<_}
 use mathlib.Core.Path.{_≡_, refl, sym, ap, _∙_}
 use mathlib.Core.Bool.{Bool, true, false}
@@ -14,9 +14,9 @@ use Rattle.manager.specs.Calls.{leaving}
 use Rattle.manager.specs.Change.{changedBy, enteredAt, numberAfter}
 use Rattle.manager.proofs.Changing.{reply-changes, start-changes, turn-changes}
 use Rattle.manager.proofs.Turning.{live-table}
-use Rattle.theorems.specs.InPlace.{ByChange, InPlace, Stays, inPlace, putIn}
+use Rattle.theorems.specs.InPlace.{ByChange, InPlace, Neat, Runs, Stays, inPlace, putIn}
 use Rattle.theorems.specs.Sound.{All, Sane, Sound}
-use Rattle.theorems.specs.Types.{Answer, Change, Done, EndFound, Entry, Outcome, SdoClientConnection, SdoClientManager}
+use Rattle.theorems.specs.Types.{Answer, Change, Done, EndFound, Entry, SdoClientConnection, SdoClientManager}
 use Rattle.theorems.proofs.Alls.{all-by, all-set}
 
 pub by-change : ByChange
@@ -26,9 +26,6 @@ by-change m store = (
   (λ node seq cmd payload. reply-changes m node seq cmd payload store),
   (λ t n output. turn-changes t m n store output),
 )
-
-abbrev Runs : SdoClientConnection → Type 0
-Runs c = c .outcome ≡ Outcome.Running
 
 runs-on : (c : SdoClientConnection) → Runs c → endOf c ≡ EndFound.Running
 runs-on c h = rw h
@@ -46,10 +43,7 @@ left : (l : List SdoClientConnection) (number : ℕ) (a : Answer) → All Runs l
     → leaving l number a ≡ record { manager = tableOf l number; answer = a; ends = noEnds }
 left l number a h = rw (kept l h, unreported l h)
 
-module _ (m : SdoClientManager) (store : Bytes) (s : Sound m store) where
-  all-run : All Runs (live m)
-  all-run = all-by (Sane store) Runs (λ c h. h .runs) (live m) (s .each)
-
+module _ (m : SdoClientManager) (s : Neat m) where
   array : m .connections ≡ padded (live m)
   array = ap (λ (x : SdoClientManager). x .connections) (s .is)
 
@@ -74,9 +68,9 @@ module _ (m : SdoClientManager) (store : Bytes) (s : Sound m store) where
       → (enteredAt m e number ≡ record { connections = putIn e (m .connections); count = m .count; «next_transaction_id» = number })
       × All Runs (live (enteredAt m e number))
   unfolding enteredAt
-  entered Entry.Nowhere number h = (refl, all-run)
+  entered Entry.Nowhere number h = (refl, s .each)
   entered (Entry.At k d) number h =
-      (put-there k d number (h .0), rw (live-table (set (live m) k d) number) (all-set Runs (live m) k d (h .1) all-run))
+      (put-there k d number (h .0), rw (live-table (set (live m) k d) number) (all-set Runs (live m) k d (h .1) (s .each)))
   entered (Entry.New d) number h = absurd h
 
   whole : (e : Entry) (number : ℕ) → Stays e m
@@ -93,7 +87,7 @@ module _ (m : SdoClientManager) (store : Bytes) (s : Sound m store) where
       left (live (enteredAt m e number)) (enteredAt m e number .«next_transaction_id») a (entered e number h .1)
       ∙ (λ i. record { manager = whole e number h i; answer = a; ends = noEnds })
 
-  placed : (c : Change) → Stays (c .entry) m → changedBy m c ≡ inPlace m c
+  pub placed : (c : Change) → Stays (c .entry) m → changedBy m c ≡ inPlace m c
   unfolding changedBy pick
   placed c h = go (c .sweeps)
     where
@@ -111,6 +105,9 @@ module _ (m : SdoClientManager) (store : Bytes) (s : Sound m store) where
       go true = swept (c .entry) number (c .answer) h ∙ there
       go false = there
 
+sound-neat : (m : SdoClientManager) (store : Bytes) → Sound m store → Neat m
+sound-neat m store s = record { is = s .is; each = all-by (Sane store) Runs (λ c h. h .runs) (live m) (s .each) }
+
 pub in-place : InPlace
 unfolding InPlace
-in-place m store s c h = placed m store s c h
+in-place = (sound-neat, placed)

@@ -8,6 +8,7 @@ pub mod Fixing
 pub mod FreeRooms
 pub mod InPlace
 pub mod JobRooms
+pub mod Neat
 pub mod OneAnswer
 pub mod Ordering
 pub mod Quieting
@@ -15,6 +16,7 @@ pub mod Reaching
 pub mod ReplyChecks
 pub mod Reporting
 pub mod Rooms
+pub mod Running
 pub mod SoundCalls
 pub mod SoundStarts
 pub mod Sounding

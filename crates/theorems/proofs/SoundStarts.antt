@@ -1,16 +1,12 @@
 -- A start leaves a sound manager sound, with the store that it leaves. Assumes nothing.
-use Prim.Native.Nat.{ℕ, _+_, _<_}
+use Prim.Native.Nat.{ℕ, _<_}
 use native.Mathlib.Omega.{arith}
 use mathlib.Core.Path.{_≡_, refl, sym, _∙_, ap, subst}
 use mathlib.Core.List.{List}
-use lib.Dec.{ltb, leb}
 use lib.ListN.{length, set}
 use Rattle.codec.specs.Bytes.{Bytes}
-use Rattle.sdo.specs.Deadline.{deadlineOf}
-use Rattle.connection.specs.Start.{capacity, isIdle, startDcf, startRead, startWrite, started, startedAt}
-use Rattle.laws.proofs.Choices.{either}
 use Rattle.exchange.proofs.MadeSound.{new-sound}
-use Rattle.manager.specs.Calls.{Job, jobRoom, loads, numberOf, reads, roomIn, startJob, stepped, writes}
+use Rattle.manager.specs.Calls.{Job, jobRoom, numberOf, roomIn, stepped}
 use Rattle.table.specs.Table.{freeRoom, insertIn, live, placeIn, roomSize, storeSize, tableOf, heldAt}
 use Rattle.theorems.specs.Run.{called, starts}
 use Rattle.theorems.specs.Sound.{All, Sane, Slotted, Sound}
@@ -18,13 +14,9 @@ use Rattle.theorems.specs.Types.{
   Answer,
   Changed,
   End,
-  Moment,
   Now,
-  Outcome,
-  Refusal,
   SdoClientConnection as Connection,
   SdoClientManager as Manager,
-  SdoJob,
 }
 use Rattle.theorems.proofs.Alls.{all-by, all-insert, all-set}
 use Rattle.theorems.proofs.Cases.{Absent, At}
@@ -33,43 +25,10 @@ use Rattle.theorems.proofs.FreeRooms.{Nobodys, free-nobodys, free-slott
 use Rattle.theorems.proofs.JobRooms.{started-room, started-same}
 use Rattle.theorems.proofs.Ordering.{ordered-insert}
 use Rattle.theorems.proofs.Rooms.{room-length}
+use Rattle.theorems.proofs.Running.{started-runs}
 use Rattle.theorems.proofs.SoundCalls.{few-set, fit-new, ordered-set, sane-there, slot-at, started-sound}
 use Rattle.theorems.proofs.Sounding.{insert-length, number-next, sane-of, sound-table}
 use Rattle.theorems.proofs.StartBy.{fresh, start-by, startOn, storeWith}
-
--- ---- a job that starts runs
-unfoldable Runs : Changed → Type 0
-Runs (Changed.Connection d) = d .outcome ≡ Outcome.Running
-Runs (Changed.Refused r) = Unit {0}
-
-refused-runs : (r : Refusal) → Runs (Changed.Refused r)
-unfolding Runs
-refused-runs r = tt
-
-begun-runs : (c : Connection) (t : ℕ) (n : Now) (job : SdoJob) → Runs (started c t n job)
-unfolding Runs started
-begun-runs c t n job = go (deadlineOf (n .time) (n .timeout))
-  where
-    go : (m : Moment) → Runs (startedAt m c t n job)
-    go Moment.OutOfRange = tt
-    go (Moment.At due) = refl
-
-start-runs : (job : Job) (c : Connection) (t : ℕ) (n : Now) (room : Bytes) → Runs (startJob job c t n room)
-unfolding startWrite startRead startDcf
-start-runs (writes index sub bytes) c t n room =
-    either Runs (isIdle (c .state)) _ _
-    (either Runs (leb (4 + length bytes) (capacity room)) _ _ (begun-runs c t n _) (refused-runs Refusal.NoRoom))
-    (refused-runs Refusal.Busy)
-start-runs (reads index sub) c t n room = either Runs (isIdle (c .state)) _ _ (begun-runs c t n _) (refused-runs Refusal.Busy)
-start-runs (loads dcf) c t n room =
-    either Runs (isIdle (c .state)) _ _
-    (either Runs (ltb (length dcf) 4) _ _ (refused-runs Refusal.DcfTooShort)
-    (either Runs (leb (length dcf) (capacity room)) _ _ (begun-runs c _ n _) (refused-runs Refusal.NoRoom)))
-    (refused-runs Refusal.Busy)
-
-runs-of : (d : Connection) (x : Changed) → x ≡ Changed.Connection d → Runs x → d .outcome ≡ Outcome.Running
-unfolding Runs
-runs-of d x e r = subst Runs e r
 
 module _ (m : Manager) (store : Bytes) (sound : Sound m store) (node : ℕ) (job : Job) (n : Now) where
   -- a start that counts and changes nothing else
@@ -102,7 +61,7 @@ module _ (m : Manager) (store : Bytes) (sound : Sound m store) (node : ℕ) (job
     sane : Sane (storeWith job store c d) d
     sane =
         sane-of (storeWith job store c d) d
-        (runs-of d (startOn m job n store c) e (start-runs job c (numberOf m) n (roomIn store c)))
+        (started-runs job c d (numberOf m) n (roomIn store c) e)
         (fit-new m store sound long c room size d fixed slot (started-sound job c d (numberOf m) n (roomIn store c) e))
 
     others : All (Sane (storeWith job store c d)) (live m)

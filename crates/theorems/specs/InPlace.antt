@@ -1,4 +1,4 @@
--- A call is its change, done; and a host that keeps a manager these calls made does most changes in place, as crates/run does: it puts the
+-- A call is its change, done; and a host that keeps a manager these calls made does most changes in place, as crates/piece does: it puts the
 -- connection at its place of the array and the number in its own, and nothing else of the manager moves.
 use Prim.Native.Nat.{ℕ, _<_}
 use mathlib.Core.Path.{_≡_}
@@ -6,10 +6,10 @@ use mathlib.Core.List.{List}
 use lib.ListN.{length, set}
 use Rattle.codec.specs.Bytes.{Bytes}
 use Rattle.table.specs.Sweep.{noEnds}
-use Rattle.table.specs.Table.{live}
+use Rattle.table.specs.Table.{live, tableOf}
 use Rattle.manager.specs.Calls.{Job, replyDone, startDone, turnOf, turnOutput}
-use Rattle.manager.specs.Change.{Tells, changedBy, numberAfter, replyingOf, startingOf, turningOf, turningOutput}
-use Rattle.theorems.specs.Sound.{Sound}
+use Rattle.manager.specs.Change.{changedBy, doneBy, doneOutput, numberAfter, replyingOf, startingOf, turningOf, turningOutput}
+use Rattle.theorems.specs.Sound.{All, Sound}
 use Rattle.theorems.specs.Types.{
   Change,
   Done,
@@ -31,13 +31,21 @@ ByChange =
     × ((node : ℕ) (seq : SequenceLayerHeader) (cmd : SdoCommand) (payload : Bytes)
     → changedBy m (replyingOf m node seq cmd payload store) ≡ replyDone m node seq cmd payload store)
     × ((t : Turn) (n : Now) (output : Bytes)
-    → Tells (turningOf t m n store output) m (turnOf t m n store output) (turnOutput t m n store output)
-    (turningOutput t m n store output) output)
+    → (doneBy (turningOf t m n store output) m store (turningOutput t m n store output) ≡ turnOf t m n store output)
+    × (doneOutput (turningOf t m n store output) m store (turningOutput t m n store output) ≡ turnOutput t m n store output))
+
+-- a manager as its calls leave it: those held come first, blank after them, and none of them has ended
+abbrev pub Runs : SdoClientConnection → Type 0
+Runs c = c .outcome ≡ Outcome.Running
+
+pub record Neat (m : SdoClientManager) : Type 0 where
+  pub is : m ≡ tableOf (live m) (m .«next_transaction_id»)
+  pub each : All Runs (live m)
 
 -- a change that can be done in place: none is entered, and what is put at a place of those held has not ended
 abbrev pub Stays : Entry → SdoClientManager → Type 0
 Stays Entry.Nowhere m = Unit
-Stays (Entry.At k d) m = (k < length (live m)) × (d .outcome ≡ Outcome.Running)
+Stays (Entry.At k d) m = (k < length (live m)) × Runs d
 Stays (Entry.New d) m = ⊥
 
 -- the array after it, and what the call comes to
@@ -60,4 +68,6 @@ inPlace m c =
     }
 
 unfoldable pub InPlace : Type 0
-InPlace = (m : SdoClientManager) (store : Bytes) → Sound m store → (c : Change) → Stays (c .entry) m → changedBy m c ≡ inPlace m c
+InPlace =
+    ((m : SdoClientManager) (store : Bytes) → Sound m store → Neat m)
+    × ((m : SdoClientManager) → Neat m → (c : Change) → Stays (c .entry) m → changedBy m c ≡ inPlace m c)

@@ -1,4 +1,5 @@
 pub mod Buffers
+pub mod Doing
 pub mod Gathers
 pub mod Operations
 pub mod Performing

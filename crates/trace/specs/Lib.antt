@@ -1,3 +1,4 @@
+pub mod Applying
 pub mod Gather
 pub mod Record
 pub mod Replay

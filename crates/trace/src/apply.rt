@@ -1,22 +1,25 @@
-// A record applied to a store, and what it changes of the manager.
+// A record applied to a store, and what it changes of the manager; doing that is the manager's `done`.
 ghost use mathlib.Core.Path.{_≡_};
 ghost use Prim.Native.Nat.{_≤_};
 ghost use lib.ListN.{length};
+ghost use Rattle.trace.specs.Applying.{
+  andHeld,
+  nothingBut,
+  useChange,
+  performing,
+  performingOutput,
+  applyingOf,
+  applyingOutput,
+};
 ghost use Rattle.trace.specs.Replay.{
   replyHeader,
   replyCommand,
-  useChange,
   useStore,
-  answeredWith,
-  gatheredAs,
-  gatherAfter,
-  performed,
+  heldAfter,
   storeAfter,
-  outputAfter,
-  appliedOf,
+  gatherAfter,
   appliedStore,
   appliedGather,
-  appliedOutput,
 };
 use crate::gather::Gathered;
 use crate::gather::gather_more;
@@ -60,7 +63,7 @@ pub struct Applied {
 
 // An answer of the replay's own: the manager stays.
 fn answered(answer: Answer, gathered: usize) -> Applied
-    ensures { λ r. ⌜ r ≡ answeredWith answer gathered ⌝ }
+    ensures { λ r. ⌜ r ≡ andHeld (nothingBut answer) gathered ⌝ }
 {
     Applied {
         changes: Turning::Changes(same(answer)),
@@ -141,7 +144,7 @@ fn use_bytes(
 }
 
 fn gathered_as(g: Gathered) -> Applied
-    ensures { λ r. ⌜ r ≡ gatheredAs g ⌝ }
+    ensures { λ r. ⌜ r ≡ andHeld (nothingBut (g .answer)) (g .gathered) ⌝ }
 {
     let answer = g.answer;
     answered(answer, g.gathered)
@@ -158,10 +161,10 @@ fn perform(
     output: &mut [u8],
 ) -> Applied
     requires { ⌜ (held ≤ 4096) × (length (now own) ≤ 16) × (4112 ≤ length (now gather)) ⌝ }
-    ensures { λ a. ⌜ a ≡ performed (r .operation) r m held «when» (now (own .entry)) (now (store .entry)) (now (gather .entry)) (now (output .entry)) ⌝ }
+    ensures { λ a. ⌜ a ≡ andHeld (performing (r .operation) r m held «when» (now (own .entry)) (now (store .entry)) (now (gather .entry)) (now (output .entry))) (heldAfter (r .operation) held (now (own .entry))) ⌝ }
     ensures { λ _. ⌜ now (store .exit) ≡ storeAfter (r .operation) r m held «when» (now (own .entry)) (now (store .entry)) (now (gather .entry)) ⌝ }
     ensures { λ _. ⌜ now (gather .exit) ≡ gatherAfter (r .operation) held (now (own .entry)) (now (gather .entry)) ⌝ }
-    ensures { λ _. ⌜ now (output .exit) ≡ outputAfter (r .operation) m «when» (now (store .entry)) (now (output .entry)) ⌝ }
+    ensures { λ _. ⌜ now (output .exit) ≡ performingOutput (r .operation) m «when» (now (store .entry)) (now (output .entry)) ⌝ }
 {
     let operation = r.operation;
     match operation {
@@ -191,7 +194,7 @@ fn perform(
 
 // What the record in the first 32 bytes comes to: the manager's call, or a gather. 11 and 10 as of read_record, 7 for a gather past 4,096 bytes,
 // 1 for a gather buffer under 4,112; then nothing has happened. Every other refusal is the library's own.
-pub fn apply(
+pub fn applying(
     m: SdoClientManager,
     gathered: usize,
     b: &[u8],
@@ -201,10 +204,10 @@ pub fn apply(
     gather: &mut [u8],
     output: &mut [u8],
 ) -> Applied
-    ensures { λ r. ⌜ r ≡ appliedOf m gathered (now (b .entry)) timeout retries (now (store .entry)) (now (gather .entry)) (now (output .entry)) ⌝ }
+    ensures { λ r. ⌜ r ≡ applyingOf m gathered (now (b .entry)) timeout retries (now (store .entry)) (now (gather .entry)) (now (output .entry)) ⌝ }
     ensures { λ _. ⌜ now (store .exit) ≡ appliedStore m gathered (now (b .entry)) timeout retries (now (store .entry)) (now (gather .entry)) ⌝ }
     ensures { λ _. ⌜ now (gather .exit) ≡ appliedGather gathered (now (b .entry)) (now (gather .entry)) ⌝ }
-    ensures { λ _. ⌜ now (output .exit) ≡ appliedOutput m (now (b .entry)) timeout retries (now (store .entry)) (now (gather .entry)) (now (output .entry)) ⌝ }
+    ensures { λ _. ⌜ now (output .exit) ≡ applyingOutput m (now (b .entry)) timeout retries (now (store .entry)) (now (gather .entry)) (now (output .entry)) ⌝ }
 {
     let held = at_most(gathered, 4096);
     if gather.len() < 4112 {

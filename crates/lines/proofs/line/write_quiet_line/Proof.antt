@@ -18,4 +18,4 @@ write-quiet-line-spec =
     (λ c κs. search needs)
     (λ c. search needs)
     (λ c. search needs)
-    (λ c. line-written _ _ _ _ _ _ _ (omega arith) (c .before .before .before .before .before .before .before .before .before .before .before .before .before .before .put-record .ensures .0) (c .before .before .before .before .before .before .before .before .before .before .put-answer .ensures .0) (c .before .before .before .before .before .before .put-byte .ensures .0) (c .before .before .put-byte2 .ensures .0)))
+    (λ c. line-written _ _ _ _ _ _ _ (omega arith) (c .before .before .before .before .before .before .before .before .before .before .before .before .before .before .put-record .ensures .0) (c .before .before .before .before .before .before .before .before .before .before .put-answer .ensures .0) (c .before .before .before .before .before .before .put-byte .ensures .0) (c .before .before .put-byte2 .ensures .0) (omega arith)))

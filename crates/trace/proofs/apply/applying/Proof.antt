@@ -1,19 +1,17 @@
--- `trace::apply::apply` meets its contract: the gather buffer, the record, and the operation's own answer. Assumes nothing.
+-- `trace::apply::applying` meets its contract: the gather buffer, the record, and the operation's own answer. Assumes nothing.
 use native.Mathlib.Omega.{arith}
 use mathlib.Core.Path.{refl, sym, _∙_}
-use Rattle.laws.proofs.Picks.{below}
-use Rattle.trace.specs.Replay.{appliedGather, appliedOf, appliedOutput, appliedStore}
-use Rattle.trace.proofs.Performing.{reads}
+use Rattle.trace.proofs.Performing.{reads, unread}
 use Rattle.trace.proofs.Records.{own-short}
 use borrow.Author.Needs.{needs}
-use Rattle.trace.proofs.apply.apply.Statement.{statement}
-use Rattle.trace.proofs.apply.apply.Tie as tie
+use Rattle.trace.proofs.apply.applying.Statement.{statement}
+use Rattle.trace.proofs.apply.applying.Tie as tie
 
 returns : tie.Need-returns
-unfolding appliedOf appliedStore appliedGather appliedOutput
 returns c =
-    let h = c .before .if1 .taken in
-    (below _ _ _ _ h (c .answered .ensures ∙ rw (c .before .before .at-most .ensures)), (below _ _ _ _ h refl, (below _ _ _ _ h refl, below _ _ _ _ h refl)))
+    let a = c .before .before .before .before .before .before .before .args in
+    unread (a .m) (a .gathered) (a .b .now) (a .timeout) (a .retries) (a .store .now) (a .gather .now) (a .output .now) (c .before .if1 .taken)
+    (c .answered .ensures ∙ rw (c .before .before .at-most .ensures))
 
 returns-2 : tie.Need-returns-2
 returns-2 c =
@@ -32,8 +30,8 @@ returns-3 c =
     reads (a .m) (a .gathered) (a .b .now) (a .timeout) (a .retries) (a .store .now) (a .gather .now) (a .output .now) (c .before .before .before .before .before .before .before .before .before .before .before .before .before .before .before .before .if1 .left) (c .before .before .before .before .before .before .before .before .before .before .before .before .before .before .before .read-record .ensures) (c .before .before .before .before .before .before .before .before .before .before .before .before .before .r2 .given .1)
     (rw (← c .before .before .before .before .before .before .before .before .before .before .before .before .before .before .before .before .before .at-most .ensures, ← c .before .before .before .before .before .before .before .before .before .before .part .ensures) (c .before .before .before .before .before .before .perform .ensures))
 
-pub apply-spec : {M : Type 1} → statement M
-apply-spec =
+pub applying-spec : {M : Type 1} → statement M
+applying-spec =
     tie.close
     (tie.spec
     (λ c κs. search needs)

@@ -1,0 +1,14 @@
+-- `piece::replay::moved` meets its contract: the call, its line, and its ends. Assumes nothing.
+use mathlib.Core.Path.{refl}
+use borrow.Author.Needs.{needs}
+use Rattle.piece.proofs.replay.moved.Statement.{statement}
+use Rattle.piece.proofs.replay.moved.Tie as tie
+
+returns : tie.Need-returns
+returns c =
+    let d = c .before .before .before .before .before .before .done .ensures in
+    let t = c .before .told .ensures in
+    rw (← d .0, ← d .1) (rw (t .0, c .complete .ensures), (refl, t .1))
+
+pub moved-spec : {M : Type 1} → statement M
+moved-spec = tie.close (tie.spec (λ c κs. search needs) (λ c κs. search needs) (λ c κs. search needs) returns)

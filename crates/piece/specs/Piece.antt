@@ -1,0 +1,160 @@
+-- A piece of a trace, replayed (document 01, "Replay"): records of 32 bytes, of which the last may be short, and a line for each; at most 65,535
+-- records. Each is applied as trace's Replay says. It stops where the text has no room for a line more.
+use Prim.Native.Nat.{ℕ, zero, suc, _+_}
+use mathlib.Core.Bool.{Bool, true, false}
+use mathlib.Core.List.{[], _∷_}
+use lib.Dec.{eqb, ltb}
+use lib.ListN.{length, take, drop, getD}
+use Rattle.laws.specs.Pick.{pick}
+use Rattle.codec.specs.Bytes.{Bytes, placed}
+use Rattle.sdo.specs.Record.{endOf}
+use Rattle.table.specs.Sweep.{endHere, noEnd, running}
+use Rattle.table.specs.Table.{live, tableOf}
+use Rattle.lines.specs.Line.{lineOf, mostLine}
+use Rattle.manager.specs.Change.{doneBy, doneOutput}
+use Rattle.trace.specs.Replay.{appliedDone, appliedGather, appliedHeld, appliedOutput, appliedStore}
+use Rattle.piece.specs.Types.{Done, Ends, Entry, Parameter, Progress, Reason, Run, SdoClientManager, Turning, Written}
+
+abbrev pub recordSize : ℕ
+recordSize = 32
+
+abbrev pub mostRecords : ℕ
+mostRecords = 65535
+
+abbrev pub textSize : ℕ
+textSize = 65536
+
+-- where a replay stands: manager and progress, the store, the gather's bytes, the output, the text
+pub record Stand : Type 0 where
+  pub run : Run
+  pub store : Bytes
+  pub gather : Bytes
+  pub output : Bytes
+  pub text : Bytes
+
+-- whether the first job that ended is Complete
+abbrev pub isComplete : Reason → Bool
+isComplete Reason.Complete = true
+isComplete Reason.Cut = false
+isComplete Reason.OpenRefused = false
+isComplete Reason.Sequence = false
+isComplete (Reason.PeerAborted code) = false
+isComplete Reason.Timeout = false
+isComplete Reason.BadSegment = false
+
+unfoldable pub completes : Ends → Bool
+completes ends = pick (eqb (ends .count) 0) false (isComplete (getD (ends .list) 0 noEnd .reason))
+
+-- where the text ends after a line that was written or refused
+abbrev pub furtherBy : ℕ → Written → ℕ
+furtherBy at (Written.Bytes n) = at + n
+furtherBy at (Written.Refused r) = at
+
+-- after a call, and a line behind the text
+abbrev pub runWith : Done → Progress → Bytes → Run
+runWith d p line =
+    record {
+      manager = d .manager;
+      progress =
+          record {
+            gathered = p .gathered;
+            number = p .number;
+            read = p .read;
+            text = p .text + length line;
+            complete = completes (d .ends);
+          };
+    }
+
+abbrev pub runOf : SdoClientManager → Progress → Run
+runOf manager progress = record { manager = manager; progress = progress }
+
+-- a record is counted, and what is gathered after it
+abbrev pub counted : Progress → ℕ → ℕ → Progress
+counted p gathered bytes =
+    record {
+      gathered = gathered;
+      number = p .number + 1;
+      read = p .read + bytes;
+      text = p .text;
+      complete = p .complete;
+    }
+
+-- 65,535 records, or no room for a line more
+abbrev pub stops : Stand → Bool
+stops s =
+    pick (eqb (s .run .progress .number) mostRecords) true (ltb textSize (s .run .progress .text + mostLine))
+
+module _ (timeout retries : Parameter) where
+  -- a record applied: the call, the output after it, and its line
+  abbrev pub callOf : Stand → Bytes → Done
+  callOf s b =
+      appliedDone (s .run .manager) (s .run .progress .gathered) b timeout retries (s .store) (s .gather) (s .output)
+
+  abbrev pub outputOf : Stand → Bytes → Bytes
+  outputOf s b = appliedOutput (s .run .manager) b timeout retries (s .store) (s .gather) (s .output)
+
+  abbrev pub lineFor : Stand → Bytes → Bytes
+  lineFor s b = lineOf (s .run .progress .number + 1) b (callOf s b .answer) (callOf s b .ends) (outputOf s b)
+
+  unfoldable pub afterRecord : Stand → Bytes → Stand
+  afterRecord s b =
+      record {
+        run =
+            runWith (callOf s b)
+            (counted (s .run .progress) (appliedHeld (s .run .progress .gathered) b (s .gather)) (length b))
+            (lineFor s b);
+        store = appliedStore (s .run .manager) (s .run .progress .gathered) b timeout retries (s .store) (s .gather);
+        gather = appliedGather (s .run .progress .gathered) b (s .gather);
+        output = outputOf s b;
+        text = placed (s .text) (s .run .progress .text) (lineFor s b);
+      }
+
+  -- up to so many records, one after another
+  unfoldable pub replayed : ℕ → Stand → Bytes → Stand
+  replayed zero s input = s
+  replayed (suc k) s [] = s
+  replayed (suc k) s (b ∷ more) =
+      pick (stops s) s (replayed k (afterRecord s (take recordSize (b ∷ more))) (drop recordSize (b ∷ more)))
+
+-- a run with so many bytes read of the piece
+abbrev pub standAt : SdoClientManager → Progress → ℕ → Bytes → Bytes → Bytes → Bytes → Stand
+standAt m p read store gather output text =
+    record {
+      run =
+          runOf m
+          (record { gathered = p .gathered; number = p .number; read = read; text = p .text; complete = p .complete });
+      store = store;
+      gather = gather;
+      output = output;
+      text = text;
+    }
+
+-- At its beginning connections that had ended are removed; a manager that the library's calls made holds none.
+abbrev pub begun : Run → Bytes → Bytes → Bytes → Bytes → Stand
+begun r store gather output text =
+    standAt (tableOf (running (live (r .manager))) (r .manager .«next_transaction_id»)) (r .progress) 0 store gather output text
+
+-- all the records of a piece: there are no more than its bytes
+abbrev pub pieceOf : Run → Parameter → Parameter → Bytes → Bytes → Bytes → Bytes → Bytes → Stand
+pieceOf r timeout retries input store gather output text =
+    replayed timeout retries (length input) (begun r store gather output text) input
+
+-- ---- which changes move the manager: those that are not told of one connection, enter one, or put one that has ended
+abbrev pub entryMoves : Entry → Bool
+entryMoves Entry.Nowhere = false
+entryMoves (Entry.At k c) = endHere (endOf c) false
+entryMoves (Entry.New c) = true
+
+abbrev pub movesBy : Turning → Bool
+movesBy (Turning.Changes c) = entryMoves (c .entry)
+movesBy (Turning.Several t n) = true
+
+-- such a change, done: the line and the run after it
+abbrev pub movedLine : Run → Turning → Bytes → Bytes → Bytes → Bytes
+movedLine r changes b store output =
+    lineOf (r .progress .number) b (doneBy changes (r .manager) store output .answer) (doneBy changes (r .manager) store output .ends)
+    (doneOutput changes (r .manager) store output)
+
+abbrev pub movedRun : Run → Turning → Bytes → Bytes → Bytes → Run
+movedRun r changes b store output =
+    runWith (doneBy changes (r .manager) store output) (r .progress) (movedLine r changes b store output)

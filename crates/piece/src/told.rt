@@ -1,0 +1,85 @@
+// A record's line, put behind the text so far.
+ghost use mathlib.Core.Path.{_≡_};
+ghost use Prim.Native.Nat.{_+_, _≤_};
+ghost use lib.ListN.{length};
+ghost use Rattle.codec.specs.Bytes.{placed};
+ghost use Rattle.lines.specs.Line.{lineOf, Short};
+ghost use Rattle.table.specs.Sweep.{noEnds};
+ghost use Rattle.piece.specs.Piece.{completes, furtherBy, isComplete};
+use codec::sequence::Written;
+use lines::line::write_line;
+use lines::line::write_quiet_line;
+use manager::types::Answer;
+use sdo::Reason;
+use table::types::Ends;
+
+// Where the text ends after a line.
+fn further(at: usize, w: Written) -> usize
+    requires { ⌜ (at ≤ 61440) × Short w ⌝ }
+    ensures { λ r. ⌜ r ≡ furtherBy at w ⌝ }
+{
+    let Written::Bytes(n) = w else {
+        // never: a line has room
+        return at;
+    };
+    at + n
+}
+
+pub(crate) fn told(
+    at: usize,
+    number: u16,
+    b: &[u8],
+    answer: Answer,
+    ends: Ends,
+    output: &[u8; 1452],
+    text: &mut [u8; 65536],
+) -> usize
+    requires { ⌜ at ≤ 61440 ⌝ }
+    ensures { λ r. ⌜ r ≡ at + length (lineOf number (now (b .entry)) answer ends (now (output .entry))) ⌝ }
+    ensures { λ _. ⌜ now (text .exit) ≡ placed (now (text .entry)) at (lineOf number (now (b .entry)) answer ends (now (output .entry))) ⌝ }
+{
+    further(at, write_line(text, at, number, b, answer, ends, output))
+}
+
+// The same where nothing ended.
+pub(crate) fn told_quiet(
+    at: usize,
+    number: u16,
+    b: &[u8],
+    answer: Answer,
+    output: &[u8; 1452],
+    text: &mut [u8; 65536],
+) -> usize
+    requires { ⌜ at ≤ 61440 ⌝ }
+    ensures { λ r. ⌜ r ≡ at + length (lineOf number (now (b .entry)) answer noEnds (now (output .entry))) ⌝ }
+    ensures { λ _. ⌜ now (text .exit) ≡ placed (now (text .entry)) at (lineOf number (now (b .entry)) answer noEnds (now (output .entry))) ⌝ }
+{
+    further(at, write_quiet_line(text, at, number, b, answer, output))
+}
+
+fn is_complete(r: Reason) -> bool
+    ensures { λ b. ⌜ b ≡ isComplete r ⌝ }
+{
+    match r {
+        Reason::Complete => true,
+        Reason::Cut => false,
+        Reason::OpenRefused => false,
+        Reason::Sequence => false,
+        Reason::PeerAborted(_) => false,
+        Reason::Timeout => false,
+        Reason::BadSegment => false,
+    }
+}
+
+// Whether the first job that ended is Complete.
+pub(crate) fn complete(ends: Ends) -> bool
+    ensures { λ r. ⌜ r ≡ completes ends ⌝ }
+{
+    if ends.count == 0 {
+        return false;
+    }
+    let list = ends.list;
+    let end = list[0];
+    let reason = end.reason;
+    is_complete(reason)
+}

@@ -17,13 +17,21 @@ use Rattle.theorems.specs.InPlace.{Neat}
 use Rattle.piece.specs.Piece.{Stand, afterRecord, replayed, stops}
 use Rattle.piece.specs.Types.{Parameter}
 
+-- the slices are as long as they were at first
+pub record Sized (first s : Stand) : Type 0 where
+  pub store : length (s .store) ≡ length (first .store)
+  pub gather : length (s .gather) ≡ length (first .gather)
+  pub output : length (s .output) ≡ length (first .output)
+  pub text : length (s .text) ≡ length (first .text)
+
 -- enough records are left for the bytes that are left
-pub record Going (timeout retries : Parameter) (total : Stand) (input : Bytes) (s : Stand) (at : ℕ) : Type 0 where
+pub record Going (timeout retries : Parameter) (first total : Stand) (input : Bytes) (s : Stand) (at : ℕ) : Type 0 where
   pub records : ℕ
   pub enough : length input ≤ at + records
   pub same : replayed timeout retries records s (drop at input) ≡ total
   pub inside : at ≤ length input
   pub neat : Neat (s .run .manager)
+  pub sized : Sized first s
 
 module _ (timeout retries : Parameter) where
   -- nothing is left, or the run stops
@@ -46,7 +54,7 @@ module _ (timeout retries : Parameter) where
   one-more (suc k) s [] h f e = absurd (omega arith)
   one-more (suc k) s (x ∷ l) h f e = (k, refl, rw e)
 
-  module _ {total : Stand} {input : Bytes} {s : Stand} {at : ℕ} (g : Going timeout retries total input s at) where
+  module _ {first total : Stand} {input : Bytes} {s : Stand} {at : ℕ} (g : Going timeout retries first total input s at) where
     pub going-ends : length input ≤ at → s ≡ total
     going-ends h =
         sym (none-left (g .records) s) ∙ ap (replayed timeout retries (g .records) s) (sym (drop-of-length-le input h)) ∙ g .same
@@ -83,9 +91,9 @@ module _ (timeout retries : Parameter) where
           let k = ap length (parts .0) ∙ length-take 32 (drop at input) in
           omega (arith, size)
 
-      pub going-on : {t : Stand} → stops s ≡ false → Neat (afterRecord timeout retries s b .run .manager) → t ≡ afterRecord timeout retries s b
-          → Going timeout retries total input t (at + n)
-      going-on {t} e neat f =
+      pub going-on : {t : Stand} → stops s ≡ false → Neat (afterRecord timeout retries s b .run .manager) → Sized first t → t ≡ afterRecord timeout retries s b
+          → Going timeout retries first total input t (at + n)
+      going-on {t} e neat z f =
           let l : length (drop at input) ≡ length input - at = length-drop at input in
           let k = g .enough in
           let x = one-more (g .records) s (drop at input) (omega arith) (omega arith) e in
@@ -97,9 +105,17 @@ module _ (timeout retries : Parameter) where
             same = (λ i. replayed timeout retries (x .0) (here i) (sym (parts .1) i)) ∙ sym (x .2) ∙ g .same;
             inside = omega (arith, size);
             neat = subst (λ (x : Stand). Neat (x .run .manager)) (sym f) neat;
+            sized = z;
           }
 
 pub going-begins : (timeout retries : Parameter) (s : Stand) (input : Bytes) → Neat (s .run .manager)
-    → Going timeout retries (replayed timeout retries (length input) s input) input s 0
+    → Going timeout retries s (replayed timeout retries (length input) s input) input s 0
 going-begins timeout retries s input neat =
-    record { records = length input; enough = omega arith; same = refl; inside = omega arith; neat = neat }
+    record {
+      records = length input;
+      enough = omega arith;
+      same = refl;
+      inside = omega arith;
+      neat = neat;
+      sized = record { store = refl; gather = refl; output = refl; text = refl };
+    }

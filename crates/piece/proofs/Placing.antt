@@ -22,7 +22,7 @@ use Rattle.trace.specs.Applying.{applyingAs, applyingTold, performing, useChang
 use Rattle.trace.specs.Gather.{gatherSize, heldBytes}
 use Rattle.trace.specs.Record.{ownData, recordRead}
 use Rattle.trace.specs.Replay.{replyCommand, replyHeader, usedBytes, whenOf}
-use Rattle.piece.specs.Piece.{entryMoves}
+use Rattle.piece.specs.Moving.{entryMoves}
 use Rattle.piece.specs.Types.{
   Change,
   Changed,

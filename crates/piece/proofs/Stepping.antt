@@ -20,7 +20,8 @@ use Rattle.theorems.proofs.InPlace.{placed as placed-there}
 use Rattle.trace.proofs.Doing.{applying-does}
 use Rattle.trace.specs.Applying.{applyingOf, applyingOutput, applyingTold}
 use Rattle.trace.specs.Replay.{appliedDone, appliedGather, appliedHeld, appliedOutput, appliedStore}
-use Rattle.piece.specs.Piece.{Stand, afterRecord, completes, movedLine, movedRun, movesBy, runOf, standAt, stops}
+use Rattle.piece.specs.Moving.{movedLine, movedRun, movesBy}
+use Rattle.piece.specs.Piece.{Stand, afterRecord, completes, runOf, standAt, stops}
 use Rattle.piece.specs.Types.{Applied, Change, Done, Entry, Parameter, Progress, Run, SdoClientConnection, SdoClientManager, Turning}
 use Rattle.piece.proofs.Going.{Going, going-on, going-stops, part-length}
 use Rattle.piece.proofs.Keeping.{applied-neat}
@@ -64,8 +65,8 @@ module _ (timeout retries : Parameter) (m : SdoClientManager) (p : Progress) (at
   unfolding afterRecord
   same-stand d out e f h r k c s g t = rw (k, c, t, e, f, h, r, s, g) refl
 
-module _ (timeout retries : Parameter) (m : SdoClientManager) (p : Progress) (at : ℕ) (store gather output text : Bytes) {total : Stand} {input : Bytes}
-    (g : Going timeout retries total input (standAt m p at store gather output text) at) where
+module _ (timeout retries : Parameter) (m : SdoClientManager) (p : Progress) (at : ℕ) (store gather output text : Bytes) {first total : Stand} {input : Bytes}
+    (g : Going timeout retries first total input (standAt m p at store gather output text) at) where
   abbrev stand : Stand
   stand = standAt m p at store gather output text
 
@@ -74,26 +75,28 @@ module _ (timeout retries : Parameter) (m : SdoClientManager) (p : Progress) (at
   unfolding pick
   last-record h = going-stops timeout retries g (rw (eq-eqb (p .number) 65535 h))
 
-  pub no-room : 61440 < p .text → stand ≡ total
+  pub no-room : length text < p .text + 4096 → stand ≡ total
   unfolding pick
   no-room h = going-stops timeout retries g (either-way (eqb (p .number) 65535))
     where
-      late : ltb 65536 (p .text + 4096) ≡ true
-      late = lt-ltb 65536 (p .text + 4096) (omega arith)
+      late : ltb (length text) (p .text + 4096) ≡ true
+      late = lt-ltb (length text) (p .text + 4096) h
 
-      either-way : (x : Bool) → pick x true (ltb 65536 (p .text + 4096)) ≡ true
+      either-way : (x : Bool) → pick x true (ltb (length text) (p .text + 4096)) ≡ true
       either-way true = refl
       either-way false = late
 
-  module _ (few : p .number ≡ 65535 → ⊥) (room : p .text ≤ 61440) (more : at < length input) {n : ℕ} {b : Bytes} (size : n ≡ min (length input - at) 32)
+  module _ (few : p .number ≡ 65535 → ⊥) (room : p .text + 4096 ≤ length text) (more : at < length input) {n : ℕ} {b : Bytes} (size : n ≡ min (length input - at) 32)
       (part : b ≡ partAt input at n) (a : Applied) {store′ gather′ output′ : Bytes}
       (does : (a ≡ applyingOf m (p .gathered) b timeout retries store gather output)
       × ((store′ ≡ appliedStore m (p .gathered) b timeout retries store gather)
       × ((gather′ ≡ appliedGather (p .gathered) b gather)
-      × ((output′ ≡ applyingOutput m b timeout retries store gather output) × (length (m .connections) ≡ 8))))) where
+      × ((output′ ≡ applyingOutput m b timeout retries store gather output)
+      × ((length (m .connections) ≡ 8)
+      × ((length store′ ≡ length store) × ((length gather′ ≡ length gather) × (length output′ ≡ length output)))))))) where
     goes : stops stand ≡ false
     unfolding pick
-    goes = rw (ne-eqb (p .number) 65535 few, le-ltb 65536 (p .text + 4096) (omega arith))
+    goes = rw (ne-eqb (p .number) 65535 few, le-ltb (length text) (p .text + 4096) (omega arith))
 
     told : a .changes ≡ applyingTold m (p .gathered) b timeout retries store gather output
     told = ap (λ (x : Applied). x .changes) (does .0)
@@ -112,13 +115,20 @@ module _ (timeout retries : Parameter) (m : SdoClientManager) (p : Progress) (at
     on-by : (d : Done) (out : Bytes) {end : ℕ} {complete : Bool} {text′ : Bytes} → d ≡ call timeout retries m p at store gather output text b
         → out ≡ sent timeout retries m p at store gather output text b
         → end ≡ p .text + length (lineOf (p .number + 1) b (d .answer) (d .ends) out) → complete ≡ completes (d .ends)
-        → text′ ≡ placed text (p .text) (lineOf (p .number + 1) b (d .answer) (d .ends) out)
-        → Going timeout retries total input
+        → text′ ≡ placed text (p .text) (lineOf (p .number + 1) b (d .answer) (d .ends) out) → length out ≡ length output
+        → length text′ ≡ length text
+        → Going timeout retries first total input
         (standAt (d .manager) (record { gathered = a .gathered; number = p .number + 1; read = p .read; text = end; complete = complete })
         (at + n) store′ gather′ out text′)
         (at + n)
-    on-by d out e f h k t =
+    on-by d out e f h k t u v =
         going-on timeout retries g more size part goes after-neat
+        (record {
+          store = does .1 .1 .1 .1 .1 .0 ∙ g .sized .store;
+          gather = does .1 .1 .1 .1 .1 .1 .0 ∙ g .sized .gather;
+          output = u ∙ g .sized .output;
+          text = v ∙ g .sized .text;
+        })
         (same-stand timeout retries m p at store gather output text b d out e f held
         (ap (λ x. at + x) (sym (part-length timeout retries g more size part))) h k (does .1 .0) (does .1 .1 .0) t)
 
@@ -130,13 +140,16 @@ module _ (timeout retries : Parameter) (m : SdoClientManager) (p : Progress) (at
     Moved run after out text′ =
         (after ≡ movedRun run (a .changes) b store′ output′)
         × ((out ≡ doneOutput (a .changes) (run .manager) store′ output′)
-        × (text′ ≡ placed text (run .progress .text) (movedLine run (a .changes) b store′ output′)))
+        × ((text′ ≡ placed text (run .progress .text) (movedLine run (a .changes) b store′ output′))
+        × ((length out ≡ length output′) × (length text′ ≡ length text))))
 
     pub moved-on : {run after : Run} {out text′ : Bytes} → run ≡ counted → Moved run after out text′
-        → Going timeout retries total input (standAt (after .manager) (after .progress) (at + n) store′ gather′ out text′) (at + n)
+        → Going timeout retries first total input (standAt (after .manager) (after .progress) (at + n) store′ gather′ out text′) (at + n)
     moved-on {after = after} {out = out} {text′ = text′} e h =
         let k : Moved counted after out text′ = subst (λ (r : Run). Moved r after out text′) e h in
-        rw (k .0, k .1 .0, k .1 .1) (on-by _ _ (called .0) (called .1) refl refl refl)
+        rw (k .0, k .1 .0, k .1 .1 .0)
+        (on-by _ _ (called .0) (called .1) refl refl refl (ap length (sym (k .1 .0)) ∙ k .1 .1 .1 .0 ∙ does .1 .1 .1 .1 .1 .1 .1)
+        (ap length (sym (k .1 .1 .0)) ∙ k .1 .1 .1 .1))
 
     -- in place
     module _ (change : Change) (one : a .changes ≡ Turning.Changes change) (quiet : movesBy (a .changes) ≡ false) where
@@ -152,7 +165,7 @@ module _ (timeout retries : Parameter) (m : SdoClientManager) (p : Progress) (at
 
       inside : Inside
       inside place c e h =
-          let l = does .1 .1 .1 .1 in
+          let l = does .1 .1 .1 .1 .0 in
           let s = subst (λ (x : Entry). Stays x m) e stay in
           let k = s .0 in
           let t = length-take (m .count) (m .connections) in
@@ -166,10 +179,10 @@ module _ (timeout retries : Parameter) (m : SdoClientManager) (p : Progress) (at
 
       pub quiet-on : {k : SdoClientManager} {end : ℕ} {text′ : Bytes} → (Inside → k ≡ inPlace m change .manager)
           → (end ≡ p .text + length (lineOf (p .number + 1) b (change .answer) noEnds output′))
-          × (text′ ≡ placed text (p .text) (lineOf (p .number + 1) b (change .answer) noEnds output′))
-          → Going timeout retries total input
+          × ((text′ ≡ placed text (p .text) (lineOf (p .number + 1) b (change .answer) noEnds output′)) × (length text′ ≡ length text))
+          → Going timeout retries first total input
           (standAt k (record { gathered = a .gathered; number = p .number + 1; read = p .read; text = end; complete = false })
           (at + n) store′ gather′ output′ text′)
           (at + n)
       unfolding completes pick
-      quiet-on e h = rw (e inside) (on-by (inPlace m change) output′ put sent-as (h .0) refl (h .1))
+      quiet-on e h = rw (e inside) (on-by (inPlace m change) output′ put sent-as (h .0) refl (h .1 .0) (does .1 .1 .1 .1 .1 .1 .1) (h .1 .1))

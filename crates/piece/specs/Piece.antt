@@ -1,5 +1,6 @@
--- A piece of a trace, replayed (document 01, "Replay"): records of 32 bytes, of which the last may be short, and a line for each; at most 65,535
--- records. Each is applied as trace's Replay says. It stops where the text has no room for a line more.
+-- A piece of a trace, replayed (document 01, "Replay"): records of 32 bytes, and a line for each; at most 65,535 records. Each is applied as trace's
+-- Replay says. What is left at the end is a short record, so only the last piece of an input may end inside one. It stops where the text has no room
+-- for a line more.
 use Prim.Native.Nat.{ℕ, zero, suc, _+_}
 use mathlib.Core.Bool.{Bool, true, false}
 use mathlib.Core.List.{[], _∷_}
@@ -7,22 +8,17 @@ use lib.Dec.{eqb, ltb}
 use lib.ListN.{length, take, drop, getD}
 use Rattle.laws.specs.Pick.{pick}
 use Rattle.codec.specs.Bytes.{Bytes, placed}
-use Rattle.sdo.specs.Record.{endOf}
-use Rattle.table.specs.Sweep.{endHere, noEnd, running}
+use Rattle.table.specs.Sweep.{noEnd, running}
 use Rattle.table.specs.Table.{live, tableOf}
 use Rattle.lines.specs.Line.{lineOf, mostLine}
-use Rattle.manager.specs.Change.{doneBy, doneOutput}
 use Rattle.trace.specs.Replay.{appliedDone, appliedGather, appliedHeld, appliedOutput, appliedStore}
-use Rattle.piece.specs.Types.{Done, Ends, Entry, Parameter, Progress, Reason, Run, SdoClientManager, Turning, Written}
+use Rattle.piece.specs.Types.{Done, Ends, Parameter, Progress, Reason, Run, SdoClientManager}
 
 abbrev pub recordSize : ℕ
 recordSize = 32
 
 abbrev pub mostRecords : ℕ
 mostRecords = 65535
-
-abbrev pub textSize : ℕ
-textSize = 65536
 
 -- where a replay stands: manager and progress, the store, the gather's bytes, the output, the text
 pub record Stand : Type 0 where
@@ -44,11 +40,6 @@ isComplete Reason.BadSegment = false
 
 unfoldable pub completes : Ends → Bool
 completes ends = pick (eqb (ends .count) 0) false (isComplete (getD (ends .list) 0 noEnd .reason))
-
--- where the text ends after a line that was written or refused
-abbrev pub furtherBy : ℕ → Written → ℕ
-furtherBy at (Written.Bytes n) = at + n
-furtherBy at (Written.Refused r) = at
 
 -- after a call, and a line behind the text
 abbrev pub runWith : Done → Progress → Bytes → Run
@@ -82,7 +73,7 @@ counted p gathered bytes =
 -- 65,535 records, or no room for a line more
 abbrev pub stops : Stand → Bool
 stops s =
-    pick (eqb (s .run .progress .number) mostRecords) true (ltb textSize (s .run .progress .text + mostLine))
+    pick (eqb (s .run .progress .number) mostRecords) true (ltb (length (s .text)) (s .run .progress .text + mostLine))
 
 module _ (timeout retries : Parameter) where
   -- a record applied: the call, the output after it, and its line
@@ -138,23 +129,3 @@ begun r store gather output text =
 abbrev pub pieceOf : Run → Parameter → Parameter → Bytes → Bytes → Bytes → Bytes → Bytes → Stand
 pieceOf r timeout retries input store gather output text =
     replayed timeout retries (length input) (begun r store gather output text) input
-
--- ---- which changes move the manager: those that are not told of one connection, enter one, or put one that has ended
-abbrev pub entryMoves : Entry → Bool
-entryMoves Entry.Nowhere = false
-entryMoves (Entry.At k c) = endHere (endOf c) false
-entryMoves (Entry.New c) = true
-
-abbrev pub movesBy : Turning → Bool
-movesBy (Turning.Changes c) = entryMoves (c .entry)
-movesBy (Turning.Several t n) = true
-
--- such a change, done: the line and the run after it
-abbrev pub movedLine : Run → Turning → Bytes → Bytes → Bytes → Bytes
-movedLine r changes b store output =
-    lineOf (r .progress .number) b (doneBy changes (r .manager) store output .answer) (doneBy changes (r .manager) store output .ends)
-    (doneOutput changes (r .manager) store output)
-
-abbrev pub movedRun : Run → Turning → Bytes → Bytes → Bytes → Run
-movedRun r changes b store output =
-    runWith (doneBy changes (r .manager) store output) (r .progress) (movedLine r changes b store output)

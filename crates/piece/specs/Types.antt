@@ -1,5 +1,6 @@
 -- The types that the definitions of a piece speak of, under one name.
 pub use Rattle.codec.specs.declared.command.SdoCommand.{SdoCommand}
+pub use Rattle.codec.specs.declared.refusal.Refusal.{Refusal}
 pub use Rattle.codec.specs.declared.sequence.SequenceLayerHeader.{SequenceLayerHeader}
 pub use Rattle.codec.specs.declared.sequence.Written.{Written}
 pub use Rattle.sdo.specs.declared.Changed.{Changed}

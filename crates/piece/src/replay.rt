@@ -1,15 +1,17 @@
 // The records of a piece, one after another.
 ghost use mathlib.Core.Path.{_≡_};
 ghost use mathlib.Core.Bool.{false};
-ghost use Prim.Native.Nat.{_≤_};
+ghost use Prim.Native.Nat.{_+_, _-_, _≤_};
 ghost use lib.ListN.{length};
 ghost use Rattle.codec.specs.Bytes.{placed};
+ghost use Rattle.lines.specs.Line.{mostLine};
 ghost use Rattle.manager.specs.Change.{doneOutput};
 ghost use Rattle.sdo.specs.Record.{endOf};
 ghost use Rattle.table.specs.Sweep.{endHere};
 ghost use Rattle.trace.specs.Applying.{applyingOf, applyingOutput};
 ghost use Rattle.trace.specs.Replay.{appliedGather, appliedStore};
-ghost use Rattle.piece.specs.Piece.{movedLine, movedRun, movesBy, pieceOf, runOf};
+ghost use Rattle.piece.specs.Moving.{movedLine, movedRun, movesBy};
+ghost use Rattle.piece.specs.Piece.{pieceOf, runOf};
 use crate::told::complete;
 use crate::told::told;
 use crate::told::told_quiet;
@@ -40,14 +42,15 @@ fn moved(
     run: Run,
     changes: Turning,
     b: &[u8],
-    store: &[u8; 32768],
-    output: &mut [u8; 1452],
-    text: &mut [u8; 65536],
+    store: &[u8],
+    output: &mut [u8],
+    text: &mut [u8],
 ) -> Run
-    requires { ⌜ run .progress .text ≤ 61440 ⌝ }
+    requires { ⌜ run .progress .text + mostLine ≤ length (now text) ⌝ }
     ensures { λ r. ⌜ r ≡ movedRun run changes (now (b .entry)) (now (store .entry)) (now (output .entry)) ⌝ }
     ensures { λ _. ⌜ now (output .exit) ≡ doneOutput changes (run .manager) (now (store .entry)) (now (output .entry)) ⌝ }
     ensures { λ _. ⌜ now (text .exit) ≡ placed (now (text .entry)) (run .progress .text) (movedLine run changes (now (b .entry)) (now (store .entry)) (now (output .entry))) ⌝ }
+    ensures { λ _. ⌜ (length (now (output .exit)) ≡ length (now (output .entry))) × (length (now (text .exit)) ≡ length (now (text .entry))) ⌝ }
 {
     let m = run.manager;
     let r = run.progress;
@@ -90,37 +93,49 @@ fn moves(changes: Turning) -> bool
     }
 }
 
-// What a record changes of the manager, which has eight places.
+// What a record changes of the manager, which has eight places; the slices stay as long as they are.
 fn changes_of(
     m: SdoClientManager,
     gathered: usize,
     timeout: Parameter,
     retries: Parameter,
     b: &[u8],
-    store: &mut [u8; 32768],
-    gather: &mut [u8; 4112],
-    output: &mut [u8; 1452],
+    store: &mut [u8],
+    gather: &mut [u8],
+    output: &mut [u8],
 ) -> Applied
     ensures { λ r. ⌜ r ≡ applyingOf m gathered (now (b .entry)) timeout retries (now (store .entry)) (now (gather .entry)) (now (output .entry)) ⌝ }
     ensures { λ _. ⌜ now (store .exit) ≡ appliedStore m gathered (now (b .entry)) timeout retries (now (store .entry)) (now (gather .entry)) ⌝ }
     ensures { λ _. ⌜ now (gather .exit) ≡ appliedGather gathered (now (b .entry)) (now (gather .entry)) ⌝ }
     ensures { λ _. ⌜ now (output .exit) ≡ applyingOutput m (now (b .entry)) timeout retries (now (store .entry)) (now (gather .entry)) (now (output .entry)) ⌝ }
     ensures { λ _. ⌜ length (m .connections) ≡ 8 ⌝ }
+    ensures { λ _. ⌜ (length (now (store .exit)) ≡ length (now (store .entry))) × ((length (now (gather .exit)) ≡ length (now (gather .entry))) × (length (now (output .exit)) ≡ length (now (output .entry)))) ⌝ }
 {
     applying(m, gathered, b, timeout, retries, store, gather, output)
 }
 
-// The records of a piece, as many as the text has room for, and no more than 65,535 in all. Most leave the manager where it is, and change one
-// connection of it at most.
+// A text so long has no room for a line more.
+fn full_at(len: usize) -> usize
+    ensures { λ r. ⌜ r ≡ len + 1 - mostLine ⌝ }
+{
+    if len < 4096 {
+        return 0;
+    }
+    len - 4095
+}
+
+// The records of a piece, as many as the text has room for, and no more than 65,535 in all: where the run is after them. Most leave the manager where
+// it is, and change one connection of it at most. A store, gather buffer or output of another size is each record's refusal, 9 or 1. What is left
+// at the end of a piece is a short record: pieces but the last have whole ones.
 pub fn replay_piece(
     run: Run,
     timeout: Parameter,
     retries: Parameter,
     input: &[u8],
-    store: &mut [u8; 32768],
-    gather: &mut [u8; 4112],
-    output: &mut [u8; 1452],
-    text: &mut [u8; 65536],
+    store: &mut [u8],
+    gather: &mut [u8],
+    output: &mut [u8],
+    text: &mut [u8],
 ) -> Run
     ensures { λ r. ⌜ r ≡ pieceOf run timeout retries (now (input .entry)) (now (store .entry)) (now (gather .entry)) (now (output .entry)) (now (text .entry)) .run ⌝ }
     ensures { λ _. ⌜ now (store .exit) ≡ pieceOf run timeout retries (now (input .entry)) (now (store .entry)) (now (gather .entry)) (now (output .entry)) (now (text .entry)) .store ⌝ }
@@ -128,11 +143,12 @@ pub fn replay_piece(
     ensures { λ _. ⌜ now (output .exit) ≡ pieceOf run timeout retries (now (input .entry)) (now (store .entry)) (now (gather .entry)) (now (output .entry)) (now (text .entry)) .output ⌝ }
     ensures { λ _. ⌜ now (text .exit) ≡ pieceOf run timeout retries (now (input .entry)) (now (store .entry)) (now (gather .entry)) (now (output .entry)) (now (text .entry)) .text ⌝ }
 {
+    let full = full_at(text.len());
     let mut m = swept(run.manager);
     let mut r = run.progress;
     let mut at: usize = 0;
     while at < input.len() {
-        if r.number == 65535 || 61440 < r.text {
+        if r.number == 65535 || full <= r.text {
             break;
         }
         let n = at_most(input.len() - at, 32);

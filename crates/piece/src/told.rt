@@ -1,11 +1,11 @@
-// A record's line, put behind the text so far.
+// A record's line, put behind the text so far: where the text ends then.
 ghost use mathlib.Core.Path.{_≡_};
 ghost use Prim.Native.Nat.{_+_, _≤_};
 ghost use lib.ListN.{length};
 ghost use Rattle.codec.specs.Bytes.{placed};
-ghost use Rattle.lines.specs.Line.{lineOf, Short};
+ghost use Rattle.lines.specs.Line.{lineOf, mostLine};
 ghost use Rattle.table.specs.Sweep.{noEnds};
-ghost use Rattle.piece.specs.Piece.{completes, furtherBy, isComplete};
+ghost use Rattle.piece.specs.Piece.{completes, isComplete};
 use codec::sequence::Written;
 use lines::line::write_line;
 use lines::line::write_quiet_line;
@@ -13,32 +13,25 @@ use manager::types::Answer;
 use sdo::Reason;
 use table::types::Ends;
 
-// Where the text ends after a line.
-fn further(at: usize, w: Written) -> usize
-    requires { ⌜ (at ≤ 61440) × Short w ⌝ }
-    ensures { λ r. ⌜ r ≡ furtherBy at w ⌝ }
-{
-    let Written::Bytes(n) = w else {
-        // never: a line has room
-        return at;
-    };
-    at + n
-}
-
 pub(crate) fn told(
     at: usize,
     number: u16,
     b: &[u8],
     answer: Answer,
     ends: Ends,
-    output: &[u8; 1452],
-    text: &mut [u8; 65536],
+    output: &[u8],
+    text: &mut [u8],
 ) -> usize
-    requires { ⌜ at ≤ 61440 ⌝ }
+    requires { ⌜ at + mostLine ≤ length (now text) ⌝ }
     ensures { λ r. ⌜ r ≡ at + length (lineOf number (now (b .entry)) answer ends (now (output .entry))) ⌝ }
     ensures { λ _. ⌜ now (text .exit) ≡ placed (now (text .entry)) at (lineOf number (now (b .entry)) answer ends (now (output .entry))) ⌝ }
+    ensures { λ _. ⌜ length (now (text .exit)) ≡ length (now (text .entry)) ⌝ }
 {
-    further(at, write_line(text, at, number, b, answer, ends, output))
+    let Written::Bytes(n) = write_line(text, at, number, b, answer, ends, output) else {
+        // never: the line has room
+        return at;
+    };
+    at + n
 }
 
 // The same where nothing ended.
@@ -47,14 +40,19 @@ pub(crate) fn told_quiet(
     number: u16,
     b: &[u8],
     answer: Answer,
-    output: &[u8; 1452],
-    text: &mut [u8; 65536],
+    output: &[u8],
+    text: &mut [u8],
 ) -> usize
-    requires { ⌜ at ≤ 61440 ⌝ }
+    requires { ⌜ at + mostLine ≤ length (now text) ⌝ }
     ensures { λ r. ⌜ r ≡ at + length (lineOf number (now (b .entry)) answer noEnds (now (output .entry))) ⌝ }
     ensures { λ _. ⌜ now (text .exit) ≡ placed (now (text .entry)) at (lineOf number (now (b .entry)) answer noEnds (now (output .entry))) ⌝ }
+    ensures { λ _. ⌜ length (now (text .exit)) ≡ length (now (text .entry)) ⌝ }
 {
-    further(at, write_quiet_line(text, at, number, b, answer, output))
+    let Written::Bytes(n) = write_quiet_line(text, at, number, b, answer, output) else {
+        // never: the line has room
+        return at;
+    };
+    at + n
 }
 
 fn is_complete(r: Reason) -> bool

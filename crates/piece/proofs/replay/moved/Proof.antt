@@ -6,9 +6,17 @@ use Rattle.piece.proofs.replay.moved.Tie as tie
 
 returns : tie.Need-returns
 returns c =
-    let d = c .before .before .before .before .before .before .done .ensures in
-    let t = c .before .told .ensures in
-    rw (← d .0, ← d .1) (rw (t .0, c .complete .ensures), (refl, t .1))
+    let d = c .before .before .before .before .before .before .before .before .before .before .done .ensures in
+    let t = c .before .before .before .told .ensures in
+    rw (← d .0, ← d .1) (rw (t .0, c .complete .ensures), (refl, (t .1 .0, (search needs, t .1 .1))))
 
 pub moved-spec : {M : Type 1} → statement M
-moved-spec = tie.close (tie.spec (λ c κs. search needs) (λ c κs. search needs) (λ c κs. search needs) returns)
+moved-spec =
+    tie.close
+    (tie.spec
+    (λ c κs. search needs)
+    (λ c κs. search needs)
+    (λ c κs. search needs)
+    (λ c. search needs)
+    (λ c. search needs)
+    returns)

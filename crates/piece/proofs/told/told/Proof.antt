@@ -1,16 +1,31 @@
 -- `piece::told::told` meets its contract: there is room for the line. Assumes nothing.
-use mathlib.Core.Path.{_≡_}
-use lib.ListN.{length}
-use Rattle.piece.proofs.Telling.{line-told}
+use native.Mathlib.Omega.{arith}
+use Rattle.piece.proofs.Telling.{line-ends, line-told, never-refused}
 use borrow.Author.Needs.{needs}
 use Rattle.piece.proofs.told.told.Statement.{statement}
 use Rattle.piece.proofs.told.told.Tie as tie
 
-returns : tie.Need-returns
-returns c =
-    let l : length (c .before .before .before .before .before .args .text .now) ≡ 65536 = search needs in
-    let w = c .before .write-line .ensures in
-    line-told _ _ _ l (c .before .before .before .before .before .pre) (c .further .ensures) (w .0) (w .1 .0)
+add-result : tie.Need-add-result
+add-result c =
+    let w = c .before .before .before .before .before .write-line .ensures in
+    let e = line-ends _ _ _ (c .before .before .before .before .before .before .before .before .before .before .pre) _ (w .0) (c .before .n .given .1) (w .1 .1) in
+    let g = c .before .before .before .before .before .before .before .before .before .before .good in
+    omega arith
+
+returns-2 : tie.Need-returns-2
+returns-2 c =
+    let w = c .before .before .before .before .before .write-line .ensures in
+    line-told _ _ _ (c .before .before .before .before .before .before .before .before .before .before .pre) _ (w .0) (c .before .n .given .1) (w .1 .1) (w .1 .0)
 
 pub told-spec : {M : Type 1} → statement M
-told-spec = tie.close (tie.spec (λ c κs. search needs) (λ c κs. search needs) returns)
+told-spec =
+    tie.close
+    (tie.spec
+    (λ c κs. search needs)
+    (λ c. search needs)
+    (λ c. search needs)
+    (λ c. search needs)
+    (λ c. absurd (never-refused _ _ _ (c .before .before .before .before .before .before .before .before .before .pre) _ (c .before .before .before .before .write-line .ensures .0) _ (c .enum-told .given .1)))
+    add-result
+    (λ c. search needs)
+    returns-2)

@@ -63,6 +63,9 @@ module _ (m : SdoClientManager) (s : Neat m) where
       let n : length (set (live m) k d) ≡ m .count = length-set (live m) k d ∙ sym many in
       λ i. record { connections = a i; count = n i; «next_transaction_id» = number }
 
+  left-so : tableOf (running (live m)) (m .«next_transaction_id») ≡ m
+  left-so = ap (λ (l : List SdoClientConnection). tableOf l (m .«next_transaction_id»)) (kept (live m) (s .each)) ∙ sym (s .is)
+
   -- the manager that a change enters its connection into, and all of it run on
   entered : (e : Entry) (number : ℕ) → Stays e m
       → (enteredAt m e number ≡ record { connections = putIn e (m .connections); count = m .count; «next_transaction_id» = number })
@@ -110,4 +113,4 @@ sound-neat m store s = record { is = s .is; each = all-by (Sane store) Runs (λ 
 
 pub in-place : InPlace
 unfolding InPlace
-in-place = (sound-neat, placed)
+in-place = (sound-neat, left-so, placed)

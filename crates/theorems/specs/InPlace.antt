@@ -5,7 +5,7 @@ use mathlib.Core.Path.{_≡_}
 use mathlib.Core.List.{List}
 use lib.ListN.{length, set}
 use Rattle.codec.specs.Bytes.{Bytes}
-use Rattle.table.specs.Sweep.{noEnds}
+use Rattle.table.specs.Sweep.{noEnds, running}
 use Rattle.table.specs.Table.{live, tableOf}
 use Rattle.manager.specs.Calls.{Job, replyDone, startDone, turnOf, turnOutput}
 use Rattle.manager.specs.Change.{changedBy, doneBy, doneOutput, numberAfter, replyingOf, startingOf, turningOf, turningOutput}
@@ -67,7 +67,9 @@ inPlace m c =
       ends = noEnds;
     }
 
+-- a sweep leaves such a manager as it is, and a change of it can be done in place
 unfoldable pub InPlace : Type 0
 InPlace =
     ((m : SdoClientManager) (store : Bytes) → Sound m store → Neat m)
+    × ((m : SdoClientManager) → Neat m → tableOf (running (live m)) (m .«next_transaction_id») ≡ m)
     × ((m : SdoClientManager) → Neat m → (c : Change) → Stays (c .entry) m → changedBy m c ≡ inPlace m c)

@@ -1,5 +1,4 @@
 -- The table of command numbers: what the decoder finds by a place in it, and its membership rule, proved over the whole table.
--- Assumes nothing.
 use Prim.Native.Nat.{ℕ, zero, suc, _+_, _≤_}
 use native.Mathlib.Nat.{zero-add}
 use native.Mathlib.Omega.{arith}

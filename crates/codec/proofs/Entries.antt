@@ -1,5 +1,5 @@
 -- What the step's answer says of the readable entries from its cursor on: an entry is the first of them, and the next cursor has the
--- rest; else there is none, whether none is counted any more or one is not readable. Assumes nothing.
+-- rest; else there is none, whether none is counted any more or one is not readable.
 use Prim.Native.Nat.{ℕ, zero, suc, _+_, _-_, _<_, _≤_}
 use native.Mathlib.Omega.{arith}
 use mathlib.Core.Path.{_≡_, refl}

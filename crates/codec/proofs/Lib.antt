@@ -1,6 +1,7 @@
 pub mod Commands
-pub mod Cutting
+pub mod CutParts
 pub mod Entries
-pub mod Reading
+pub mod ReadCases
 pub mod RoundTrips
-pub mod Writing
+pub mod Steps
+pub mod WrittenBytes

@@ -1,5 +1,5 @@
 -- What was written is read back: a header with its numbers modulo 64, a command with the payload that its segment size says. So a
--- well-formed header or command is read back the same. Assumes nothing.
+-- well-formed header or command is read back the same.
 use Prim.Native.Nat.{ℕ, _+_, _*_, _/_, _%_, _<_, _≤_}
 use native.Mathlib.Nat.{add-assoc, mod-eq-of-lt}
 use native.Mathlib.Omega.{arith}
@@ -49,8 +49,8 @@ use Rattle.codec.specs.declared.sequence.SendConnState.{SendConnState}
 use Rattle.codec.specs.declared.sequence.SequenceLayerHeader.{SequenceLayerHeader}
 use Rattle.codec.specs.declared.sequence.SequenceRead.{SequenceRead}
 use Rattle.codec.proofs.Commands.{decoded-back}
-use Rattle.codec.proofs.Reading.{payload-past, payload-whole}
-use Rattle.codec.proofs.Writing.{head-length, bytes-length}
+use Rattle.codec.proofs.ReadCases.{payload-past, payload-whole}
+use Rattle.codec.proofs.WrittenBytes.{head-length, bytes-length}
 
 -- ---- the sequence header
 

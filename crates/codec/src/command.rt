@@ -24,6 +24,7 @@ ghost use Rattle.codec.specs.Command.{
 ghost use Rattle.codec.specs.Writing.{written, bufferAfter};
 use crate::octets::le16_at;
 use crate::octets::le32_at;
+use crate::octets::octets32;
 use crate::octets::put_bytes;
 use crate::refusal::Refusal;
 use crate::sequence::Written;
@@ -268,12 +269,7 @@ fn size_octets(d: DataSize) -> [u8; 4]
     ensures { λ r. ⌜ r ≡ sizeOctets d ⌝ }
 {
     match d {
-        DataSize::Present(n) => [
-            (n % 256) as u8,
-            (n / 256 % 256) as u8,
-            (n / 65536 % 256) as u8,
-            (n / 16777216 % 256) as u8,
-        ],
+        DataSize::Present(n) => octets32(n),
         DataSize::Absent => [0, 0, 0, 0],
     }
 }

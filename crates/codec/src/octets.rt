@@ -1,22 +1,43 @@
 // Numbers in bytes, low byte first; bytes put into a buffer; and a part of some bytes.
 ghost use mathlib.Core.Path.{_≡_};
-ghost use Prim.Native.Nat.{_+_, _<_, _≤_};
+ghost use Prim.Native.Nat.{_+_, _*_, _≤_};
 ghost use lib.ListN.{length};
-ghost use Rattle.codec.specs.Bytes.{le16At, le32At, partAt, placed};
+ghost use Rattle.codec.specs.Bytes.{le16At, le32, le32At, partAt, placed};
 ghost use Rattle.codec.specs.Writing.{putAnswer, putBuffer};
 use crate::refusal::Refusal;
 use crate::sequence::Written;
 
-fn wide16(x: u8) -> u16
-    ensures { λ r. ⌜ (r ≡ x) × (r < 256) ⌝ }
+// A number of two parts, the low one first: two bytes, and two numbers of 16 or of 32 bits.
+pub fn joined16(low: u8, high: u8) -> u16
+    ensures { λ r. ⌜ r ≡ low + high * 256 ⌝ }
 {
-    x as u16
+    low as u16 + high as u16 * 256
 }
 
-fn wide32(x: u16) -> u32
-    ensures { λ r. ⌜ (r ≡ x) × (r < 65536) ⌝ }
+pub fn joined32(low: u16, high: u16) -> u32
+    ensures { λ r. ⌜ r ≡ low + high * 65536 ⌝ }
 {
-    x as u32
+    low as u32 + high as u32 * 65536
+}
+
+pub fn joined64(low: u32, high: u32) -> u64
+    ensures { λ r. ⌜ r ≡ low + high * 4294967296 ⌝ }
+{
+    low as u64 + high as u64 * 4294967296
+}
+
+// The four bytes of a number.
+pub type FourOctets = [u8; 4];
+
+pub fn octets32(n: u32) -> FourOctets
+    ensures { λ r. ⌜ r ≡ le32 n ⌝ }
+{
+    [
+        (n % 256) as u8,
+        (n / 256 % 256) as u8,
+        (n / 65536 % 256) as u8,
+        (n / 16777216 % 256) as u8,
+    ]
 }
 
 // The number of two bytes at a place.
@@ -24,7 +45,7 @@ pub(crate) fn le16_at(b: &[u8], at: usize) -> u16
     requires { ⌜ at + 2 ≤ length (now b) ⌝ }
     ensures { λ r. ⌜ r ≡ le16At (now (b .entry)) at ⌝ }
 {
-    wide16(b[at]) + wide16(b[at + 1]) * 256
+    joined16(b[at], b[at + 1])
 }
 
 // The number of four bytes at a place.
@@ -32,7 +53,7 @@ pub(crate) fn le32_at(b: &[u8], at: usize) -> u32
     requires { ⌜ at + 4 ≤ length (now b) ⌝ }
     ensures { λ r. ⌜ r ≡ le32At (now (b .entry)) at ⌝ }
 {
-    wide32(le16_at(b, at)) + wide32(le16_at(b, at + 2)) * 65536
+    joined32(le16_at(b, at), le16_at(b, at + 2))
 }
 
 // Puts the bytes of src into buffer, from at on.

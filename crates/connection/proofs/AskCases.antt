@@ -1,9 +1,9 @@
--- What a command that is given comes to, by the deadline that was found for it. Assumes nothing.
+-- What a command that is given comes to, by the deadline that was found for it.
 use Prim.Native.Nat.{ℕ}
 use mathlib.Core.Path.{_≡_}
 use Rattle.laws.proofs.Answers.{told}
 use Rattle.connection.specs.Ask.{given, givenAt}
-use Rattle.sdo.specs.Deadline.{deadlineOf}
+use Rattle.con_rec.specs.Deadline.{deadlineOf}
 use Rattle.connection.specs.Types.{Moment, Now, Outgoing, SdoClientConnection, SdoClientConnectionState, Stepped}
 
 pub given-by : (c : SdoClientConnection) (n : Now) (s : SdoClientConnectionState) (sent : ℕ) (o : Outgoing) {answer found : Moment} {r : Stepped}

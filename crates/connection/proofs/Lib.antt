@@ -1,2 +1,5 @@
 pub mod AskCases
+pub mod DueView
 pub mod StartCases
+pub mod StartView
+pub mod TurnView

@@ -3,10 +3,10 @@
 use Prim.Native.Nat.{ℕ, _+_, _-_, _%_}
 use lib.Dec.{eqb}
 use Rattle.laws.specs.Pick.{pick}
-use Rattle.sdo.specs.Commands.{openingCommand, readCommand, nextCommand, firstCommand, laterCommand}
-use Rattle.sdo.specs.Deadline.{retriesOf, deadlineOf}
-use Rattle.sdo.specs.Parts.{total, partLength}
-use Rattle.sdo.specs.Record.{changed, ended}
+use Rattle.con_rec.specs.Commands.{openingCommand, readCommand, nextCommand, firstCommand, laterCommand}
+use Rattle.con_rec.specs.Deadline.{retriesOf, deadlineOf}
+use Rattle.con_rec.specs.Parts.{total, partLength}
+use Rattle.con_rec.specs.Record.{updated, ended}
 use Rattle.connection.specs.Types.{
   Deadline,
   LoadedTransfer,
@@ -53,7 +53,7 @@ givenAt (Moment.At deadline) c n s sent o =
     Stepped.Went
     (record {
       connection =
-          changed c s (c .«transaction_id») ((c .«send_sequence_number» + 1) % 64) (c .«last_received_sequence_number»)
+          updated c s (c .«transaction_id») ((c .«send_sequence_number» + 1) % 64) (c .«last_received_sequence_number»)
           (withOffset (c .job) sent) (waitingFor o deadline (retriesOf (n .retries))) (c .outcome);
       sends = Sends.Gives o;
     })

@@ -8,10 +8,10 @@ use lib.ListN.{length}
 use Rattle.laws.specs.Pick.{pick}
 use Rattle.codec.specs.Bytes.{Bytes, placed}
 use Rattle.codec.specs.Dcf.{countOf, dcfStep}
-use Rattle.sdo.specs.Deadline.{retriesOf, deadlineOf}
-use Rattle.sdo.specs.Record.{changed, nextTransaction}
+use Rattle.con_rec.specs.Deadline.{retriesOf, deadlineOf}
+use Rattle.con_rec.specs.Record.{updated, nextTransaction}
 use Rattle.connection.specs.Types.{
-  Changed,
+  Taken,
   Deadline,
   DcfCursor,
   DcfStep,
@@ -80,37 +80,37 @@ dcfTransaction DcfStep.End t = t
 dcfTransaction DcfStep.Unreadable t = t
 
 -- started, or refusal 8
-abbrev pub startedAt : Moment → SdoClientConnection → ℕ → Now → SdoJob → Changed
-startedAt Moment.OutOfRange c t n job = Changed.Refused Refusal.DeadlineRange
+abbrev pub startedAt : Moment → SdoClientConnection → ℕ → Now → SdoJob → Taken
+startedAt Moment.OutOfRange c t n job = Taken.Refused Refusal.DeadlineRange
 startedAt (Moment.At deadline) c t n job =
-    Changed.Connection
-    (changed c SdoClientConnectionState.Opening t 0 63 job
+    Taken.Connection
+    (updated c SdoClientConnectionState.Opening t 0 63 job
     (record { «last_sent_command» = Outstanding.Nothing; deadline = Deadline.At deadline; «retries_left» = retriesOf (n .retries) })
     Outcome.Running)
 
-unfoldable pub started : SdoClientConnection → ℕ → Now → SdoJob → Changed
+unfoldable pub started : SdoClientConnection → ℕ → Now → SdoJob → Taken
 started c t n job = startedAt (deadlineOf (n .time) (n .timeout)) c t n job
 
-unfoldable pub startRead : SdoClientConnection → ℕ → Now → ℕ → ℕ → Changed
+unfoldable pub startRead : SdoClientConnection → ℕ → Now → ℕ → ℕ → Taken
 startRead c t n index sub =
-    pick (isIdle (c .state)) (started c t n (readJob index sub)) (Changed.Refused Refusal.Busy)
+    pick (isIdle (c .state)) (started c t n (readJob index sub)) (Taken.Refused Refusal.Busy)
 
-unfoldable pub startWrite : SdoClientConnection → ℕ → Now → ℕ → ℕ → Bytes → Bytes → Changed
+unfoldable pub startWrite : SdoClientConnection → ℕ → Now → ℕ → ℕ → Bytes → Bytes → Taken
 startWrite c t n index sub bytes room =
     pick (isIdle (c .state))
-    (pick (leb (4 + length bytes) (capacity room)) (started c t n (writeJob index sub bytes)) (Changed.Refused Refusal.NoRoom))
-    (Changed.Refused Refusal.Busy)
+    (pick (leb (4 + length bytes) (capacity room)) (started c t n (writeJob index sub bytes)) (Taken.Refused Refusal.NoRoom))
+    (Taken.Refused Refusal.Busy)
 
-unfoldable pub startDcf : SdoClientConnection → ℕ → Now → Bytes → Bytes → Changed
+unfoldable pub startDcf : SdoClientConnection → ℕ → Now → Bytes → Bytes → Taken
 startDcf c t n dcf room =
     pick (isIdle (c .state))
-    (pick (ltb (length dcf) 4) (Changed.Refused Refusal.DcfTooShort)
+    (pick (ltb (length dcf) 4) (Taken.Refused Refusal.DcfTooShort)
     (pick (leb (length dcf) (capacity room))
     (started c (dcfTransaction (dcfStep dcf (firstCursor dcf)) t) n (dcfJob (dcfStep dcf (firstCursor dcf)) (length dcf) (firstCursor dcf)))
-    (Changed.Refused Refusal.NoRoom)))
-    (Changed.Refused Refusal.Busy)
+    (Taken.Refused Refusal.NoRoom)))
+    (Taken.Refused Refusal.Busy)
 
 -- the room as a start leaves it: the job's bytes at its start, or as it was where the start was refused
-abbrev pub roomWith : Changed → Bytes → Bytes → Bytes
-roomWith (Changed.Connection c) bytes room = placed room 0 bytes
-roomWith (Changed.Refused r) bytes room = room
+abbrev pub roomWith : Taken → Bytes → Bytes → Bytes
+roomWith (Taken.Connection c) bytes room = placed room 0 bytes
+roomWith (Taken.Refused r) bytes room = room

@@ -4,9 +4,9 @@ use Prim.Native.Nat.{ℕ, _-_}
 use lib.Dec.{ltb, eqb}
 use Rattle.laws.specs.Pick.{pick}
 use Rattle.connection.specs.Ask.{quiet}
-use Rattle.sdo.specs.Commands.{abortCommand}
-use Rattle.sdo.specs.Deadline.{deadlineOf}
-use Rattle.sdo.specs.Record.{changed, ended}
+use Rattle.con_rec.specs.Commands.{abortCommand}
+use Rattle.con_rec.specs.Deadline.{deadlineOf}
+use Rattle.con_rec.specs.Record.{updated, ended}
 use Rattle.connection.specs.Types.{
   Deadline,
   Moment,
@@ -39,7 +39,7 @@ retriedAt (Moment.At deadline) c =
     Stepped.Went
     (record {
       connection =
-          changed c (c .state) (c .«transaction_id») (c .«send_sequence_number») (c .«last_received_sequence_number»)
+          updated c (c .state) (c .«transaction_id») (c .«send_sequence_number») (c .«last_received_sequence_number»)
           (c .job) (oneFewer (c .waiting) deadline) (c .outcome);
       sends = repeated (c .waiting .«last_sent_command»);
     })

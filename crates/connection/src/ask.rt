@@ -1,35 +1,35 @@
 // Ask: what a connection has to send. It looks at the record alone, and answers the new record and the command with its place.
 ghost use mathlib.Core.Path.{_≡_};
 ghost use Rattle.connection.specs.Ask.{quiet as quietStep, given as givenStep, finish as finishOf, askRead, askFirst, askLater, askIn, askOf};
-ghost use Rattle.sdo.specs.Commands.{outgoing};
-ghost use Rattle.sdo.specs.Record.{ended as endedWith};
+ghost use Rattle.con_rec.specs.Commands.{outgoing};
+ghost use Rattle.con_rec.specs.Record.{ended as endedWith};
 use codec::refusal::Refusal;
-use sdo::Deadline;
-use sdo::LoadedTransfer;
-use sdo::Message;
-use sdo::Moment;
-use sdo::Now;
-use sdo::Outcome;
-use sdo::Outstanding;
-use sdo::PendingRead;
-use sdo::Reason;
-use sdo::SdoClientConnection;
-use sdo::SdoClientConnectionState;
-use sdo::SdoJob;
-use sdo::Sends;
-use sdo::Step;
-use sdo::Stepped;
-use sdo::Waiting;
-use sdo::commands::numbered;
-use sdo::deadlines::deadline_of;
-use sdo::deadlines::retries_of;
-use sdo::numbers::next_number;
-use sdo::parts::part_length;
-use sdo::parts::rest_of;
-use sdo::parts::total_of;
+use con_rec::Deadline;
+use con_rec::LoadedTransfer;
+use con_rec::Message;
+use con_rec::Moment;
+use con_rec::Now;
+use con_rec::Outcome;
+use con_rec::Outstanding;
+use con_rec::PendingRead;
+use con_rec::Reason;
+use con_rec::SdoClientConnection;
+use con_rec::SdoClientConnectionState;
+use con_rec::SdoJob;
+use con_rec::Sends;
+use con_rec::Step;
+use con_rec::Stepped;
+use con_rec::Waiting;
+use con_rec::commands::numbered;
+use con_rec::deadlines::deadline_of;
+use con_rec::deadlines::retries_of;
+use con_rec::numbers::next_number;
+use con_rec::parts::part_length;
+use con_rec::parts::rest_of;
+use con_rec::parts::total_of;
 
 // Nothing is given.
-pub fn quiet(c: SdoClientConnection) -> Stepped
+pub(crate) fn quiet(c: SdoClientConnection) -> Stepped
     ensures { λ r. ⌜ r ≡ quietStep c ⌝ }
 {
     Stepped::Went(Step {
@@ -103,7 +103,7 @@ fn given(
 }
 
 // Complete where none is counted any more, else Cut.
-pub fn finish(left: u32) -> Reason
+fn finish(left: u32) -> Reason
     ensures { λ r. ⌜ r ≡ finishOf left ⌝ }
 {
     if left == 0 {

@@ -21,22 +21,22 @@ use codec::dcf::dcf_count;
 use codec::dcf::dcf_step;
 use codec::octets::put;
 use codec::refusal::Refusal;
-use sdo::Changed;
-use sdo::Deadline;
-use sdo::LoadedTransfer;
-use sdo::Moment;
-use sdo::Now;
-use sdo::Outcome;
-use sdo::Outstanding;
-use sdo::PendingRead;
-use sdo::SdoClientConnection;
-use sdo::SdoClientConnectionState;
-use sdo::SdoJob;
-use sdo::Transfer;
-use sdo::Waiting;
-use sdo::deadlines::deadline_of;
-use sdo::deadlines::retries_of;
-use sdo::numbers::next_transaction;
+use con_rec::Deadline;
+use con_rec::LoadedTransfer;
+use con_rec::Moment;
+use con_rec::Now;
+use con_rec::Outcome;
+use con_rec::Outstanding;
+use con_rec::PendingRead;
+use con_rec::SdoClientConnection;
+use con_rec::SdoClientConnectionState;
+use con_rec::SdoJob;
+use con_rec::Taken;
+use con_rec::Transfer;
+use con_rec::Waiting;
+use con_rec::deadlines::deadline_of;
+use con_rec::deadlines::retries_of;
+use con_rec::numbers::next_transaction;
 
 fn is_idle(s: SdoClientConnectionState) -> bool
     ensures { λ r. ⌜ r ≡ isIdle s ⌝ }
@@ -74,15 +74,15 @@ fn job_with(size: usize, cursor: DcfCursor, loaded: LoadedTransfer, read: Pendin
 }
 
 // Opening, with a job and its deadline; 8 where the deadline does not fit.
-fn started(c: SdoClientConnection, tid: u8, n: Now, job: SdoJob) -> Changed
+fn started(c: SdoClientConnection, tid: u8, n: Now, job: SdoJob) -> Taken
     ensures { λ r. ⌜ r ≡ startedOf c tid n job ⌝ }
 {
     let timeout = n.timeout;
     let retries = n.retries;
     let Moment::At(deadline) = deadline_of(n.time, timeout) else {
-        return Changed::Refused(Refusal::DeadlineRange);
+        return Taken::Refused(Refusal::DeadlineRange);
     };
-    Changed::Connection(SdoClientConnection {
+    Taken::Connection(SdoClientConnection {
         target_node_id: c.target_node_id,
         room: c.room,
         state: SdoClientConnectionState::Opening,
@@ -103,58 +103,51 @@ fn started(c: SdoClientConnection, tid: u8, n: Now, job: SdoJob) -> Changed
 fn dcf_job(d: DcfStep, size: usize, first: DcfCursor) -> SdoJob
     ensures { λ r. ⌜ r ≡ dcfJob d size first ⌝ }
 {
-    match d {
-        DcfStep::Entry {
-            index,
-            sub_index,
-            start,
-            len,
-            next,
-        } => job_with(
-            size,
-            next,
-            LoadedTransfer::Loaded(Transfer {
-                index,
-                sub_index,
-                start,
-                len,
-            }),
-            PendingRead::NoRead,
-        ),
-        DcfStep::End => job_with(size, first, LoadedTransfer::Unloaded, PendingRead::NoRead),
-        DcfStep::Unreadable => job_with(size, first, LoadedTransfer::Unloaded, PendingRead::NoRead),
-    }
+    let DcfStep::Entry {
+        index,
+        sub_index,
+        start,
+        len,
+        next,
+    } = d
+    else {
+        return job_with(size, first, LoadedTransfer::Unloaded, PendingRead::NoRead);
+    };
+    let loaded = LoadedTransfer::Loaded(Transfer {
+        index,
+        sub_index,
+        start,
+        len,
+    });
+    job_with(size, next, loaded, PendingRead::NoRead)
 }
 
 // The load of the first entry steps the transaction.
 fn dcf_transaction(d: DcfStep, tid: u8) -> u8
     ensures { λ r. ⌜ r ≡ dcfTransaction d tid ⌝ }
 {
-    match d {
-        DcfStep::Entry {
-            index: _,
-            sub_index: _,
-            start: _,
-            len: _,
-            next: _,
-        } => next_transaction(tid),
-        DcfStep::End => tid,
-        DcfStep::Unreadable => tid,
-    }
+    let DcfStep::Entry {
+        index: _,
+        sub_index: _,
+        start: _,
+        len: _,
+        next: _,
+    } = d
+    else {
+        return tid;
+    };
+    next_transaction(tid)
 }
 
 // A start puts the job's bytes at the start of the room; a refused one leaves the room as it was.
-fn keep_bytes(answer: Changed, bytes: &[u8], room: &mut [u8])
+fn keep_bytes(answer: Taken, bytes: &[u8], room: &mut [u8])
     requires { ⌜ length (now bytes) ≤ length (now room) ⌝ }
     ensures { λ _. ⌜ now (room .exit) ≡ roomWith answer (now (bytes .entry)) (now (room .entry)) ⌝ }
 {
-    match answer {
-        Changed::Connection(_) => {
-            put(room, 0, bytes);
-            return;
-        }
-        Changed::Refused(_) => return,
-    }
+    let Taken::Connection(_) = answer else {
+        return;
+    };
+    put(room, 0, bytes);
 }
 
 // Starts a job that reads an object. 4 where a job is running, 8 where the deadline does not fit.
@@ -164,7 +157,7 @@ pub fn start_read_job(
     sub_index: u8,
     tid: u8,
     when: Now,
-) -> Changed
+) -> Taken
     ensures { λ r. ⌜ r ≡ startRead c tid «when» index «sub_index» ⌝ }
 {
     let state = c.state;
@@ -178,7 +171,7 @@ pub fn start_read_job(
         );
         return started(c, tid, when, job);
     }
-    Changed::Refused(Refusal::Busy)
+    Taken::Refused(Refusal::Busy)
 }
 
 // Starts a job that writes an object. 4 where a job is running, 7 where its bytes and the 4 ahead of them go past the room, 8 where
@@ -191,7 +184,7 @@ pub fn start_write_job(
     tid: u8,
     when: Now,
     room: &mut [u8],
-) -> Changed
+) -> Taken
     ensures { λ r. ⌜ r ≡ startWrite c tid «when» index «sub_index» (now (bytes .entry)) (now (room .entry)) ⌝ }
     ensures { λ _. ⌜ now (room .exit) ≡ roomWith (startWrite c tid «when» index «sub_index» (now (bytes .entry)) (now (room .entry))) (now (bytes .entry)) (now (room .entry)) ⌝ }
 {
@@ -200,10 +193,10 @@ pub fn start_write_job(
         let size = bytes.len();
         let most = capacity_of(room.len());
         if most < 4 {
-            return Changed::Refused(Refusal::NoRoom);
+            return Taken::Refused(Refusal::NoRoom);
         }
         if most - 4 < size {
-            return Changed::Refused(Refusal::NoRoom);
+            return Taken::Refused(Refusal::NoRoom);
         }
         let loaded = LoadedTransfer::Loaded(Transfer {
             index,
@@ -221,7 +214,7 @@ pub fn start_write_job(
         keep_bytes(answer, bytes, room);
         return answer;
     }
-    Changed::Refused(Refusal::Busy)
+    Taken::Refused(Refusal::Busy)
 }
 
 // Starts a concise DCF job. 4 where a job is running, 5 for a DCF under four bytes, 7 where it goes past the room, 8 where the
@@ -232,17 +225,17 @@ pub fn start_concise_dcf_job(
     tid: u8,
     when: Now,
     room: &mut [u8],
-) -> Changed
+) -> Taken
     ensures { λ r. ⌜ r ≡ startDcf c tid «when» (now (dcf .entry)) (now (room .entry)) ⌝ }
     ensures { λ _. ⌜ now (room .exit) ≡ roomWith (startDcf c tid «when» (now (dcf .entry)) (now (room .entry))) (now (dcf .entry)) (now (room .entry)) ⌝ }
 {
     let state = c.state;
     if is_idle(state) {
         let DcfCount::Count(count) = dcf_count(dcf) else {
-            return Changed::Refused(Refusal::DcfTooShort);
+            return Taken::Refused(Refusal::DcfTooShort);
         };
         if capacity_of(room.len()) < dcf.len() {
-            return Changed::Refused(Refusal::NoRoom);
+            return Taken::Refused(Refusal::NoRoom);
         }
         let first = DcfCursor { at: 4, left: count };
         let step = dcf_step(dcf, first);
@@ -251,5 +244,5 @@ pub fn start_concise_dcf_job(
         keep_bytes(answer, dcf, room);
         return answer;
     }
-    Changed::Refused(Refusal::Busy)
+    Taken::Refused(Refusal::Busy)
 }

@@ -5,19 +5,19 @@ ghost use Rattle.connection.specs.Tick.{repeated as repeatedOf, retriedA
 use crate::ask::ended;
 use crate::ask::quiet;
 use codec::refusal::Refusal;
-use sdo::Deadline;
-use sdo::Message;
-use sdo::Moment;
-use sdo::Now;
-use sdo::Outstanding;
-use sdo::Reason;
-use sdo::SdoClientConnection;
-use sdo::Sends;
-use sdo::Step;
-use sdo::Stepped;
-use sdo::Waiting;
-use sdo::commands::numbered;
-use sdo::deadlines::deadline_of;
+use con_rec::Deadline;
+use con_rec::Message;
+use con_rec::Moment;
+use con_rec::Now;
+use con_rec::Outstanding;
+use con_rec::Reason;
+use con_rec::SdoClientConnection;
+use con_rec::Sends;
+use con_rec::Step;
+use con_rec::Stepped;
+use con_rec::Waiting;
+use con_rec::commands::numbered;
+use con_rec::deadlines::deadline_of;
 
 const TIMED_OUT: u32 = 0x05040000;
 
@@ -45,46 +45,44 @@ fn retried(m: Moment, c: SdoClientConnection) -> Stepped
     requires { ⌜ 0 < c .waiting .«retries_left» ⌝ }
     ensures { λ r. ⌜ r ≡ retriedAt m c ⌝ }
 {
+    let Moment::At(deadline) = m else {
+        return Stepped::Refused(Refusal::DeadlineRange);
+    };
     let waiting = c.waiting;
     let outstanding = waiting.last_sent_command;
-    match m {
-        Moment::At(deadline) => return Stepped::Went(Step {
-            connection: SdoClientConnection {
-                target_node_id: c.target_node_id,
-                room: c.room,
-                transaction_id: c.transaction_id,
-                send_sequence_number: c.send_sequence_number,
-                last_received_sequence_number: c.last_received_sequence_number,
-                waiting: Waiting {
-                    deadline: Deadline::At(deadline),
-                    retries_left: waiting.retries_left - 1,
-                    ..waiting
-                },
-                ..c
+    Stepped::Went(Step {
+        connection: SdoClientConnection {
+            target_node_id: c.target_node_id,
+            room: c.room,
+            transaction_id: c.transaction_id,
+            send_sequence_number: c.send_sequence_number,
+            last_received_sequence_number: c.last_received_sequence_number,
+            waiting: Waiting {
+                deadline: Deadline::At(deadline),
+                retries_left: waiting.retries_left - 1,
+                ..waiting
             },
-            sends: repeated(outstanding),
-        }),
-        Moment::OutOfRange => return Stepped::Refused(Refusal::DeadlineRange),
-    }
+            ..c
+        },
+        sends: repeated(outstanding),
+    })
 }
 
 fn tick_at(d: Deadline, c: SdoClientConnection, n: Now) -> Stepped
     ensures { λ r. ⌜ r ≡ tickAt d c n ⌝ }
 {
+    let Deadline::At(deadline) = d else {
+        return quiet(c);
+    };
     let waiting = c.waiting;
     let timeout = n.timeout;
-    match d {
-        Deadline::Never => return quiet(c),
-        Deadline::At(deadline) => {
-            if n.time < deadline {
-                return quiet(c);
-            }
-            if waiting.retries_left == 0 {
-                return timed_out(c);
-            }
-            return retried(deadline_of(n.time, timeout), c);
-        }
+    if n.time < deadline {
+        return quiet(c);
     }
+    if waiting.retries_left == 0 {
+        return timed_out(c);
+    }
+    retried(deadline_of(n.time, timeout), c)
 }
 
 // What a deadline that has passed brings about: a repeat, or the abort of the connection. Call it when next_action_time has come; a

@@ -1,31 +1,23 @@
 // The host's manager, lent: each function keeps the manager in a local of its own, lends that to the call, and hands both on, the manager
 // as the call left it and what the call told.
 ghost use mathlib.Core.Path.{_≡_};
-ghost use Rattle.manager.specs.Calls.{
-  loads,
-  turnOf,
-  turnOutput,
-  replyDone,
-  replyStore,
-  startDone,
-  startStore,
-  leastDeadline,
-};
-ghost use Rattle.table.specs.Table.{live};
-ghost use Rattle.lent.specs.Lent.{keptOf};
+ghost use mathlib.Core.List.{[]};
+ghost use Rattle.manager.specs.Calls.{called, starts, turns, replies, loads, leastDeadline};
+ghost use Rattle.man_table.specs.Table.{live};
+ghost use Rattle.man_lent.specs.Lent.{keptOf};
 use codec::command::SdoCommand;
 use codec::sequence::SequenceLayerHeader;
-use lent::types::Kept;
-use sdo::Deadline;
-use sdo::Now;
-use table::types::SdoClientManager;
-use table::types::Turn;
+use con_rec::Deadline;
+use con_rec::Now;
+use man_lent::types::Kept;
+use man_table::types::SdoClientManager;
+use man_table::types::Turn;
 
 pub(crate) fn load(m: SdoClientManager, target: u8, dcf: &[u8], when: Now, store: &mut [u8]) -> Kept
-    ensures { λ r. ⌜ (r ≡ keptOf (startDone m target (loads (now (dcf .entry))) «when» (now (store .entry)))) × (now (store .exit) ≡ startStore m target (loads (now (dcf .entry))) «when» (now (store .entry))) ⌝ }
+    ensures { λ r. ⌜ (r ≡ keptOf (called m (now (store .entry)) [] (starts target (loads (now (dcf .entry))) «when») .done)) × (now (store .exit) ≡ called m (now (store .entry)) [] (starts target (loads (now (dcf .entry))) «when») .store) ⌝ }
 {
     let mut manager = m;
-    let told = lent::start_configuration_download(&mut manager, target, dcf, when, store);
+    let told = man_lent::start_configuration_download(&mut manager, target, dcf, when, store);
     Kept { manager, told }
 }
 
@@ -37,31 +29,31 @@ pub(crate) fn reply(
     payload: &[u8],
     store: &mut [u8],
 ) -> Kept
-    ensures { λ r. ⌜ (r ≡ keptOf (replyDone m source seq cmd (now (payload .entry)) (now (store .entry)))) × (now (store .exit) ≡ replyStore m source seq cmd (now (payload .entry)) (now (store .entry))) ⌝ }
+    ensures { λ r. ⌜ (r ≡ keptOf (called m (now (store .entry)) [] (replies source seq cmd (now (payload .entry))) .done)) × (now (store .exit) ≡ called m (now (store .entry)) [] (replies source seq cmd (now (payload .entry))) .store) ⌝ }
 {
     let mut manager = m;
-    let told = lent::handle_response(&mut manager, source, seq, cmd, payload, store);
+    let told = man_lent::handle_response(&mut manager, source, seq, cmd, payload, store);
     Kept { manager, told }
 }
 
 pub(crate) fn ask(m: SdoClientManager, when: Now, store: &[u8], output: &mut [u8]) -> Kept
-    ensures { λ r. ⌜ (r ≡ keptOf (turnOf Turn.Asking m «when» (now (store .entry)) (now (output .entry)))) × (now (output .exit) ≡ turnOutput Turn.Asking m «when» (now (store .entry)) (now (output .entry))) ⌝ }
+    ensures { λ r. ⌜ (r ≡ keptOf (called m (now (store .entry)) (now (output .entry)) (turns Turn.Asking «when») .done)) × (now (output .exit) ≡ called m (now (store .entry)) (now (output .entry)) (turns Turn.Asking «when») .output) ⌝ }
 {
     let mut manager = m;
-    let told = lent::get_pending_request(&mut manager, when, store, output);
+    let told = man_lent::get_pending_request(&mut manager, when, store, output);
     Kept { manager, told }
 }
 
 pub(crate) fn tick(m: SdoClientManager, when: Now, store: &[u8], output: &mut [u8]) -> Kept
-    ensures { λ r. ⌜ (r ≡ keptOf (turnOf Turn.Ticking m «when» (now (store .entry)) (now (output .entry)))) × (now (output .exit) ≡ turnOutput Turn.Ticking m «when» (now (store .entry)) (now (output .entry))) ⌝ }
+    ensures { λ r. ⌜ (r ≡ keptOf (called m (now (store .entry)) (now (output .entry)) (turns Turn.Ticking «when») .done)) × (now (output .exit) ≡ called m (now (store .entry)) (now (output .entry)) (turns Turn.Ticking «when») .output) ⌝ }
 {
     let mut manager = m;
-    let told = lent::tick(&mut manager, when, store, output);
+    let told = man_lent::tick(&mut manager, when, store, output);
     Kept { manager, told }
 }
 
 pub(crate) fn next(m: SdoClientManager) -> Deadline
     ensures { λ r. ⌜ r ≡ leastDeadline (live m) ⌝ }
 {
-    lent::next_action_time(&m)
+    man_lent::next_action_time(&m)
 }

@@ -2,13 +2,15 @@
 // each call (loan). Here the wire leads to a simulated cell (cell), and what happens is written to standard output (print), which is held
 // to the file stdout.
 use codec::octets::part;
-use lent::types::Kept;
+use con_rec::Deadline;
+use con_rec::Now;
+use con_rec::Parameter;
+use man_lent::types::Kept;
+use man_table::types::STORE_SIZE;
+use man_table::types::SdoClientManager;
 use manager::types::Answer;
+use manager::types::OUTPUT_SIZE;
 use manager::types::SentTo;
-use sdo::Deadline;
-use sdo::Now;
-use sdo::Parameter;
-use table::types::SdoClientManager;
 
 mod cell;
 mod loan;
@@ -35,7 +37,7 @@ fn start(
     node: u8,
     dcf: &[u8],
     time: u64,
-    store: &mut [u8; 32768],
+    store: &mut [u8; STORE_SIZE],
 ) -> SdoClientManager {
     let none = [0u8; 0];
     let kept = loan::load(m, node, dcf, at(time), store);
@@ -45,7 +47,12 @@ fn start(
 }
 
 // A frame can go out: the manager is asked what is to be sent.
-fn ask(m: SdoClientManager, time: u64, store: &[u8; 32768], output: &mut [u8; 1452]) -> Kept {
+fn ask(
+    m: SdoClientManager,
+    time: u64,
+    store: &[u8; STORE_SIZE],
+    output: &mut [u8; OUTPUT_SIZE],
+) -> Kept {
     let kept = loan::ask(m, at(time), store, output);
     let told = kept.told;
     print::told(told, output);
@@ -53,7 +60,12 @@ fn ask(m: SdoClientManager, time: u64, store: &[u8; 32768], output: &mut [u8; 14
 }
 
 // A command goes to the cell, and the cell's answer to the manager.
-fn answered(h: Host, sent: SentTo, store: &mut [u8; 32768], output: &[u8; 1452]) -> Host {
+fn answered(
+    h: Host,
+    sent: SentTo,
+    store: &mut [u8; STORE_SIZE],
+    output: &[u8; OUTPUT_SIZE],
+) -> Host {
     let manager = h.manager;
     let cell = h.cell;
     let command = sent.command;
@@ -74,7 +86,7 @@ fn answered(h: Host, sent: SentTo, store: &mut [u8; 32768], output: &[u8; 1452])
 }
 
 // A turn with a cell that answers.
-fn turn(h: Host, time: u64, store: &mut [u8; 32768], output: &mut [u8; 1452]) -> Host {
+fn turn(h: Host, time: u64, store: &mut [u8; STORE_SIZE], output: &mut [u8; OUTPUT_SIZE]) -> Host {
     let manager = h.manager;
     let cell = h.cell;
     let kept = ask(manager, time, store, output);
@@ -92,7 +104,11 @@ fn turn(h: Host, time: u64, store: &mut [u8; 32768], output: &mut [u8; 1452]) ->
 }
 
 // Nothing came: the clock goes on to the next action time, and tick is called there.
-fn later(m: SdoClientManager, store: &[u8; 32768], output: &mut [u8; 1452]) -> SdoClientManager {
+fn later(
+    m: SdoClientManager,
+    store: &[u8; STORE_SIZE],
+    output: &mut [u8; OUTPUT_SIZE],
+) -> SdoClientManager {
     let due = loan::next(m);
     print::next(due);
     let Deadline::At(time) = due else {
@@ -105,7 +121,13 @@ fn later(m: SdoClientManager, store: &[u8; 32768], output: &mut [u8; 1452]) -> S
 }
 
 // A load: a job is started, and then there are as many turns as an opening and two entries take.
-fn load(h: Host, dcf: &[u8], time: u64, store: &mut [u8; 32768], output: &mut [u8; 1452]) -> Host {
+fn load(
+    h: Host,
+    dcf: &[u8],
+    time: u64,
+    store: &mut [u8; STORE_SIZE],
+    output: &mut [u8; OUTPUT_SIZE],
+) -> Host {
     let manager = h.manager;
     let cell = h.cell;
     let started = Host {
@@ -122,8 +144,8 @@ fn silent(
     m: SdoClientManager,
     dcf: &[u8],
     time: u64,
-    store: &mut [u8; 32768],
-    output: &mut [u8; 1452],
+    store: &mut [u8; STORE_SIZE],
+    output: &mut [u8; OUTPUT_SIZE],
 ) {
     let started = start(m, 7, dcf, time, store);
     let kept = ask(started, time, store, output);
@@ -137,20 +159,20 @@ fn silent(
 // Document 01's P7, two entries; and P8, its last byte dropped: the second entry is not readable, and the job ends Cut with the one that
 // was delivered.
 fn main() {
-    let mut store = [0u8; 32768];
-    let mut output = [0u8; 1452];
+    let mut store = [0u8; STORE_SIZE];
+    let mut output = [0u8; OUTPUT_SIZE];
     let dcf = b"\x02\0\0\0\x00\x21\x01\x02\0\0\0\x01\x04\x01\x21\x00\0\0\0\0";
     let new = Host {
         manager: SdoClientManager::new(),
         cell: cell::new(),
     };
-    print::text(b"node 5, a DCF of two entries\n");
+    console::text(b"node 5, a DCF of two entries\n");
     let whole = load(new, dcf, 0, &mut store, &mut output);
     let loaded = whole.cell;
     print::objects(loaded);
-    print::text(b"node 5, the same DCF without its last byte\n");
+    console::text(b"node 5, the same DCF without its last byte\n");
     let cut = load(whole, part(dcf, 0, 19), 1000000, &mut store, &mut output);
     let manager = cut.manager;
-    print::text(b"node 7, which does not answer\n");
+    console::text(b"node 7, which does not answer\n");
     silent(manager, dcf, 2000000, &mut store, &mut output);
 }

@@ -5,30 +5,16 @@ use codec::command::SdoCommand;
 use codec::octets::part;
 use codec::refusal::refusal_number;
 use codec::sequence::SequenceLayerHeader;
-use codec::sequence::Written;
-use lent::types::Told;
-use libc::STDOUT_FILENO;
+use con_rec::Deadline;
+use con_rec::End;
+use con_rec::Reason;
+use console::hex;
+use console::number;
+use console::small;
+use console::text;
+use man_lent::types::Told;
+use man_table::types::Ends;
 use manager::types::Answer;
-use sdo::Deadline;
-use sdo::End;
-use sdo::Reason;
-use table::types::Ends;
-
-pub(crate) fn text(b: &[u8]) {
-    io::write_all(STDOUT_FILENO, b);
-}
-
-fn wide(x: u8) -> u64 {
-    x as u64
-}
-
-fn hex(b: &[u8]) {
-    let mut i: usize = 0;
-    while i < b.len() {
-        io::print_hex(STDOUT_FILENO, wide(b[i]), 2);
-        i += 1;
-    }
-}
 
 // A frame on a line: where it goes, and its bytes, sequence header and command.
 pub(crate) fn frame(
@@ -38,17 +24,10 @@ pub(crate) fn frame(
     command: SdoCommand,
     payload: &[u8],
 ) {
-    let mut header = [0u8; 4];
-    let mut bytes = [0u8; 1464];
     text(way);
-    io::print_decimal(STDOUT_FILENO, wide(node));
+    small(node);
     text(b" ");
-    sequence.serialize(&mut header);
-    hex(&header);
-    let Written::Bytes(n) = command.serialize(payload, &mut bytes) else {
-        return;
-    };
-    hex(part(&bytes, 0, n));
+    console::frame(sequence, command, payload);
     text(b"\n");
 }
 
@@ -73,11 +52,11 @@ fn reason(r: Reason) {
 fn end(e: End) {
     let why = e.reason;
     text(b"end ");
-    io::print_decimal(STDOUT_FILENO, wide(e.node));
+    small(e.node);
     text(b" ");
     reason(why);
     text(b", delivered ");
-    io::print_decimal(STDOUT_FILENO, e.delivered as u64);
+    number(e.delivered as u64);
     text(b"\n");
 }
 
@@ -112,7 +91,7 @@ pub(crate) fn told(t: Told, output: &[u8]) {
         }
         Answer::Refused(r) => {
             text(b"refused ");
-            io::print_decimal(STDOUT_FILENO, wide(refusal_number(r)));
+            small(refusal_number(r));
             text(b"\n");
         }
     }
@@ -122,9 +101,7 @@ pub(crate) fn told(t: Told, output: &[u8]) {
 pub(crate) fn next(d: Deadline) {
     text(b"next ");
     match d {
-        Deadline::At(t) => {
-            io::print_decimal(STDOUT_FILENO, t);
-        }
+        Deadline::At(t) => number(t),
         Deadline::Never => text(b"-"),
     }
     text(b"\n");
@@ -132,13 +109,13 @@ pub(crate) fn next(d: Deadline) {
 
 fn object(o: Object) {
     text(b"object ");
-    io::print_hex(STDOUT_FILENO, o.index as u64, 4);
+    hex(o.index as u64, 4);
     text(b":");
-    io::print_hex(STDOUT_FILENO, wide(o.sub_index), 2);
+    hex(o.sub_index as u64, 2);
     text(b" ");
-    io::print_decimal(STDOUT_FILENO, o.bytes as u64);
+    number(o.bytes as u64);
     text(b" bytes, ");
-    io::print_decimal(STDOUT_FILENO, o.value as u64);
+    number(o.value as u64);
     text(b"\n");
 }
 

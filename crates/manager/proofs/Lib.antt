@@ -1,5 +1,7 @@
-pub mod Changing
-pub mod Deadlines
-pub mod Inserting
-pub mod Lending
-pub mod Turning
+pub mod Insertion
+pub mod LeastDeadline
+pub mod LentRoom
+pub mod Parts
+pub mod PlanCalls
+pub mod StartCalls
+pub mod WalkCalls

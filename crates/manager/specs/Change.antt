@@ -1,42 +1,29 @@
--- What a call changes, where it changes one connection at most. A call is its change, done: `changedBy m` of what it changes is what Calls
--- says of it, for any manager.
+-- A change: what a call changes of the manager, where it changes one connection at most. Done, it gives the manager after the call, its answer
+-- and the ends that it reports.
 use Prim.Native.Nat.{ℕ}
 use mathlib.Core.Bool.{true, false}
-use lib.Dec.{ltb, eqb}
+use mathlib.Core.List.{List}
+use lib.Dec.{ltb}
 use lib.ListN.{length, set}
 use Rattle.laws.specs.Pick.{pick}
-use Rattle.codec.specs.Bytes.{Bytes}
-use Rattle.codec.specs.Writing.{bufferAfter}
-use Rattle.sdo.specs.Payload.{payloadOf}
-use Rattle.sdo.specs.Record.{nextTransaction}
-use Rattle.exchange.specs.Reply.{replyOf, replied}
-use Rattle.table.specs.Resting.{dueIn}
-use Rattle.table.specs.Sweep.{noEnds}
-use Rattle.table.specs.Table.{findIn, heldAt, insertIn, live, storeSize, tableOf, targetOf}
-use Rattle.table.specs.Walk.{turned}
-use Rattle.manager.specs.Calls.{Job, leaving, numberOf, roomIn, sentTo, startJob, takesNumber, turnOf, turnOutput}
-use Rattle.manager.specs.Types.{
-  Answer,
-  Change,
-  Changed,
-  Done,
-  Entry,
-  Found,
-  Now,
-  Refusal,
-  SdoClientConnection,
-  SdoClientManager,
-  SdoCommand,
-  Seat,
-  Sends,
-  SequenceLayerHeader,
-  Stepped,
-  Target,
-  Turn,
-  Turning,
-}
+use Rattle.con_rec.specs.Record.{nextTransaction}
+use Rattle.man_table.specs.Sweep.{running, endsIn, endsOf, noEnds}
+use Rattle.man_table.specs.Table.{insertIn, live, tableOf}
+use Rattle.manager.specs.Types.{Answer, Change, Done, Entry, Refusal, SdoClientConnection, SdoClientManager}
 
--- nothing; a connection put somewhere, and the ended ones removed; one entered by a start, which takes a number
+-- a call that leaves a list of connections: the ended ones are removed and reported
+abbrev pub leaving : List SdoClientConnection → ℕ → Answer → Done
+leaving l number answer =
+    record { manager = tableOf (running l) number; answer = answer; ends = endsOf (endsIn l) }
+
+-- a call that leaves the manager as it was, or one that it names: no end
+abbrev pub answering : SdoClientManager → Answer → Done
+answering m answer = record { manager = m; answer = answer; ends = noEnds }
+
+abbrev pub refusing : SdoClientManager → Refusal → Done
+refusing m r = answering m (Answer.Refused r)
+
+-- nothing changes; a tick, an ask or a reply puts a connection somewhere; a start enters one, or is refused, and takes a number
 abbrev pub same : Answer → Change
 same answer = record { entry = Entry.Nowhere; numbers = false; sweeps = false; answer = answer }
 
@@ -57,113 +44,12 @@ enteredAt m Entry.Nowhere number =
 enteredAt m (Entry.At k c) number = tableOf (set (live m) k c) number
 enteredAt m (Entry.New c) number = pick (ltb (length (live m)) 8) (tableOf (insertIn c (live m)) number) m
 
+abbrev pub entered : SdoClientManager → Change → SdoClientManager
+entered m change = enteredAt m (change .entry) (numberAfter change (m .«next_transaction_id»))
+
 -- a change, done
-abbrev pub after : SdoClientManager → Change → SdoClientManager
-after m change = enteredAt m (change .entry) (numberAfter change (m .«next_transaction_id»))
-
-unfoldable pub changedBy : SdoClientManager → Change → Done
-changedBy m change =
+unfoldable pub changeDone : SdoClientManager → Change → Done
+changeDone m change =
     pick (change .sweeps)
-    (leaving (live (after m change)) (after m change .«next_transaction_id») (change .answer))
-    (record { manager = after m change; answer = change .answer; ends = noEnds })
-
--- ---- tick and ask: the first connection that does not rest gives a command, or all rest, or several may change
-
-abbrev pub givenBy : Sends → SdoClientConnection → Turn → ℕ → Now → Turning
-givenBy (Sends.Gives o) d t k n = Turning.Changes (putting (Entry.At k d) (sentTo d o))
-givenBy Sends.Silent d t k n = Turning.Several t n
-
-abbrev pub turningBy : Stepped → Turn → ℕ → Now → Turning
-turningBy (Stepped.Refused r) t k n = Turning.Changes (same (Answer.Refused r))
-turningBy (Stepped.Went s) t k n = givenBy (s .sends) (s .connection) t k n
-
-abbrev pub turningAt : Found → Turn → SdoClientManager → Now → Turning
-turningAt Found.Absent t m n = Turning.Changes (putting Entry.Nowhere Answer.Nothing)
-turningAt (Found.At k) t m n = turningBy (turned t (heldAt m k) n) t k n
-
-unfoldable pub turningOf : Turn → SdoClientManager → Now → Bytes → Bytes → Turning
-turningOf t m n store output =
-    pick (eqb (length store) storeSize)
-    (pick (ltb (length output) 1452)
-    (Turning.Changes (same (Answer.Refused Refusal.BufferTooShort)))
-    (turningAt (dueIn t n (live m)) t m n))
-    (Turning.Changes (same (Answer.Refused Refusal.WrongStore)))
-
--- the payload fills the start of the output
-abbrev pub givenOutput : Sends → SdoClientConnection → Bytes → Bytes → Bytes
-givenOutput (Sends.Gives o) d store output = bufferAfter (payloadOf (roomIn store d) o) output
-givenOutput Sends.Silent d store output = output
-
-abbrev pub outputBy : Stepped → Bytes → Bytes → Bytes
-outputBy (Stepped.Refused r) store output = output
-outputBy (Stepped.Went s) store output = givenOutput (s .sends) (s .connection) store output
-
-abbrev pub outputAt : Found → Turn → SdoClientManager → Now → Bytes → Bytes → Bytes
-outputAt Found.Absent t m n store output = output
-outputAt (Found.At k) t m n store output = outputBy (turned t (heldAt m k) n) store output
-
-unfoldable pub turningOutput : Turn → SdoClientManager → Now → Bytes → Bytes → Bytes
-turningOutput t m n store output =
-    pick (eqb (length store) storeSize)
-    (pick (ltb (length output) 1452) output (outputAt (dueIn t n (live m)) t m n store output))
-    output
-
--- what is told of a call, done, and the output after it: its change, or the call by value
-abbrev pub doneBy : Turning → SdoClientManager → Bytes → Bytes → Done
-doneBy (Turning.Changes c) m store output = changedBy m c
-doneBy (Turning.Several t n) m store output = turnOf t m n store output
-
-abbrev pub doneOutput : Turning → SdoClientManager → Bytes → Bytes → Bytes
-doneOutput (Turning.Changes c) m store output = output
-doneOutput (Turning.Several t n) m store output = turnOutput t m n store output
-
--- ---- reply
-
-abbrev pub replyingAs : Changed → ℕ → Change
-replyingAs (Changed.Connection d) k = putting (Entry.At k d) Answer.Nothing
-replyingAs (Changed.Refused r) k = same (Answer.Refused r)
-
-abbrev pub replyingAt : Found → SdoClientManager → SequenceLayerHeader → SdoCommand → Bytes → Bytes → Change
-replyingAt Found.Absent m seq cmd payload store = same Answer.Nothing
-replyingAt (Found.At k) m seq cmd payload store =
-    replyingAs (replied (replyOf seq cmd payload (heldAt m k) (roomIn store (heldAt m k)))) k
-
-unfoldable pub replyingOf : SdoClientManager → ℕ → SequenceLayerHeader → SdoCommand → Bytes → Bytes → Change
-replyingOf m node seq cmd payload store =
-    pick (eqb (length store) storeSize)
-    (replyingAt (findIn node (live m)) m seq cmd payload store)
-    (same (Answer.Refused Refusal.WrongStore))
-
--- ---- starts
-
--- where a connection goes that a job was started on, and the Idle one that refusal 5 enters for a new node
-abbrev pub entryOf : Target → SdoClientConnection → Entry
-entryOf Target.Full d = Entry.Nowhere
-entryOf (Target.Held k c) d = Entry.At k d
-entryOf (Target.New c) d = Entry.New d
-
-abbrev pub idleOf : Target → Entry
-idleOf Target.Full = Entry.Nowhere
-idleOf (Target.Held k c) = Entry.Nowhere
-idleOf (Target.New c) = Entry.New c
-
-abbrev pub startingBy : Changed → Target → Change
-startingBy (Changed.Connection d) t = taking (entryOf t d) Answer.Nothing
-startingBy (Changed.Refused r) t = pick (takesNumber r) (taking (idleOf t) (Answer.Refused r)) (same (Answer.Refused r))
-
--- the connection that a job goes to, or why there is none
-abbrev pub seatAt : Target → Seat
-seatAt Target.Full = Seat.Refused Refusal.TableFull
-seatAt (Target.Held k c) = Seat.On c
-seatAt (Target.New c) = Seat.On c
-
-unfoldable pub seatOf : Target → ℕ → Seat
-seatOf t size = pick (eqb size storeSize) (seatAt t) (Seat.Refused Refusal.WrongStore)
-
-abbrev pub startingOn : Seat → Target → SdoClientManager → Job → Now → Bytes → Change
-startingOn (Seat.Refused r) t m job n store = same (Answer.Refused r)
-startingOn (Seat.On c) t m job n store = startingBy (startJob job c (numberOf m) n (roomIn store c)) t
-
-unfoldable pub startingOf : SdoClientManager → ℕ → Job → Now → Bytes → Change
-startingOf m node job n store =
-    startingOn (seatOf (targetOf m node) (length store)) (targetOf m node) m job n store
+    (leaving (live (entered m change)) (entered m change .«next_transaction_id») (change .answer))
+    (answering (entered m change) (change .answer))

@@ -1,3 +1,4 @@
 pub mod Calls
 pub mod Change
+pub mod Plan
 pub mod Types

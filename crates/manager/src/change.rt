@@ -1,17 +1,29 @@
-// A change, and the manager after it.
+// For the replay's loop, which keeps the manager where it is; a panel uses start, turn, reply and next. A change, and the manager after it.
 ghost use mathlib.Core.Path.{_≡_};
-ghost use Rattle.manager.specs.Change.{same as sameOf, putting as puttingOf, taking as takingOf, enteredAt, numberAfter, changedBy};
-use crate::ask::leaving;
+ghost use Rattle.manager.specs.Change.{
+  same as sameOf,
+  putting as puttingOf,
+  taking as takingOf,
+  leaving as leavingOf,
+  enteredAt,
+  numberAfter,
+  changeDone,
+};
+ghost use Rattle.man_table.specs.Table.{live};
+use crate::enter::first_of;
 use crate::enter::insert;
 use crate::enter::replace;
 use crate::types::Answer;
 use crate::types::Change;
 use crate::types::Done;
-use crate::types::Entry;
-use sdo::numbers::next_transaction;
-use table::held::lived;
-use table::types::SdoClientManager;
-use table::types::no_ends;
+use con_rec::numbers::next_transaction;
+use man_table::held::lived;
+use man_table::sweep::any_end;
+use man_table::sweep::ends_of;
+use man_table::sweep::swept;
+use man_table::types::Entry;
+use man_table::types::SdoClientManager;
+use man_table::types::no_ends;
 
 // Nothing changes.
 pub fn same(answer: Answer) -> Change
@@ -78,9 +90,34 @@ fn entered(m: SdoClientManager, entry: Entry, number: u8) -> SdoClientManager
     }
 }
 
-// The manager after a change, what its call answers, and the ends.
-pub fn changed(m: SdoClientManager, change: Change) -> Done
-    ensures { λ d. ⌜ d ≡ changedBy m change ⌝ }
+// A call that went through: the ended connections are removed and reported. Mostly none has ended, and then the table isn't filled anew.
+pub(crate) fn leaving(m: SdoClientManager, answer: Answer) -> Done
+    ensures { λ d. ⌜ d ≡ leavingOf (live m) (m .«next_transaction_id») answer ⌝ }
+{
+    if any_end(m) {
+        return Done {
+            manager: swept(m),
+            answer,
+            ends: ends_of(m),
+        };
+    }
+    let n = lived(m);
+    let connections = first_of(m, n);
+    let manager = SdoClientManager {
+        connections,
+        count: n,
+        next_transaction_id: m.next_transaction_id,
+    };
+    Done {
+        manager,
+        answer,
+        ends: no_ends(),
+    }
+}
+
+// A change, done: the manager after it, what its call answers, and the ends.
+pub(crate) fn apply_change(m: SdoClientManager, change: Change) -> Done
+    ensures { λ d. ⌜ d ≡ changeDone m change ⌝ }
 {
     let entry = change.entry;
     let answer = change.answer;

@@ -2,12 +2,12 @@
 ghost use mathlib.Core.Path.{_≡_};
 ghost use Prim.Native.Nat.{_<_, _≤_};
 ghost use lib.ListN.{length, take, set};
-ghost use Rattle.table.specs.Table.{live, padded, tableOf, insertIn};
-use sdo::SdoClientConnection;
-use table::held::lived;
-use table::held::place_of;
-use table::types::SdoClientManager;
-use table::types::blank;
+ghost use Rattle.man_table.specs.Table.{live, padded, tableOf, insertIn};
+use con_rec::SdoClientConnection;
+use man_table::held::lived;
+use man_table::held::place_of;
+use man_table::types::SdoClientManager;
+use man_table::types::blank;
 
 // The first n connections held, in a table that is blank after them.
 pub(crate) fn first_of(m: SdoClientManager, n: usize) -> [SdoClientConnection; 8]

@@ -1,10 +1,10 @@
 // next_action_time: when the host should call tick next.
 ghost use mathlib.Core.Path.{_≡_};
 ghost use Rattle.manager.specs.Calls.{sooner as soonerOf, leastDeadline};
-ghost use Rattle.table.specs.Table.{live};
-use sdo::Deadline;
-use table::held::lived;
-use table::types::SdoClientManager;
+ghost use Rattle.man_table.specs.Table.{live};
+use con_rec::Deadline;
+use man_table::held::lived;
+use man_table::types::SdoClientManager;
 
 fn sooner(a: Deadline, b: Deadline) -> Deadline
     ensures { λ r. ⌜ r ≡ soonerOf a b ⌝ }

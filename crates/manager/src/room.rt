@@ -2,24 +2,30 @@
 ghost use mathlib.Core.Path.{_≡_};
 ghost use Prim.Native.Nat.{_≤_};
 ghost use lib.ListN.{length};
-ghost use Rattle.exchange.specs.Reply.{replyOf, replied, roomAfter};
-ghost use Rattle.connection.specs.Start.{startWrite, startDcf, roomWith};
-ghost use Rattle.manager.specs.Calls.{roomIn, withRoom};
-ghost use Rattle.table.specs.Table.{roomStart};
+ghost use Rattle.con_reply.specs.Reply.{replyOf, replied, roomAfter};
+ghost use Rattle.connection.specs.Start.{startWrite, startDcf};
+ghost use Rattle.manager.specs.Calls.{writes, loads, roomIn, withRoom, startedStore, repliedStore};
+ghost use Rattle.man_table.specs.Table.{roomStart};
 use codec::command::SdoCommand;
 use codec::sequence::SequenceLayerHeader;
+use con_rec::Now;
+use con_rec::SdoClientConnection;
+use con_rec::Taken;
+use con_reply::reply::handle_response;
 use connection::start::start_concise_dcf_job;
 use connection::start::start_write_job;
-use exchange::reply::handle_response;
-use sdo::Changed;
-use sdo::Now;
-use sdo::SdoClientConnection;
+use man_table::types::LAST_ROOM;
+use man_table::types::ROOM_SIZE;
 
 // Where a connection's room starts, within the store whatever the record says.
 fn room_start(c: SdoClientConnection) -> usize
     ensures { λ r. ⌜ (r ≡ roomStart c) × (r ≤ 28672) ⌝ }
 {
-    if c.room < 28672 { c.room } else { 28672 }
+    if c.room < LAST_ROOM {
+        c.room
+    } else {
+        LAST_ROOM
+    }
 }
 
 pub(crate) fn room_in(store: &[u8], c: SdoClientConnection) -> &[u8]
@@ -27,7 +33,7 @@ pub(crate) fn room_in(store: &[u8], c: SdoClientConnection) -> &[u8]
     ensures { λ r. ⌜ now r ≡ roomIn (now (store .entry)) c ⌝ }
 {
     let a = room_start(c);
-    let e = a + 4096;
+    let e = a + ROOM_SIZE;
     &store[a..e]
 }
 
@@ -39,13 +45,13 @@ pub(crate) fn write_in(
     tid: u8,
     when: Now,
     store: &mut [u8],
-) -> Changed
+) -> Taken
     requires { ⌜ length (now store) ≡ 32768 ⌝ }
     ensures { λ r. ⌜ r ≡ startWrite c tid «when» index «sub_index» (now (bytes .entry)) (roomIn (now (store .entry)) c) ⌝ }
-    ensures { λ r. ⌜ now (store .exit) ≡ withRoom (now (store .entry)) c (roomWith (startWrite c tid «when» index «sub_index» (now (bytes .entry)) (roomIn (now (store .entry)) c)) (now (bytes .entry)) (roomIn (now (store .entry)) c)) ⌝ }
+    ensures { λ r. ⌜ now (store .exit) ≡ startedStore (startWrite c tid «when» index «sub_index» (now (bytes .entry)) (roomIn (now (store .entry)) c)) (writes index «sub_index» (now (bytes .entry))) c (now (store .entry)) ⌝ }
 {
     let a = room_start(c);
-    let e = a + 4096;
+    let e = a + ROOM_SIZE;
     start_write_job(c, index, sub_index, bytes, tid, when, &mut store[a..e])
 }
 
@@ -55,13 +61,13 @@ pub(crate) fn dcf_in(
     tid: u8,
     when: Now,
     store: &mut [u8],
-) -> Changed
+) -> Taken
     requires { ⌜ length (now store) ≡ 32768 ⌝ }
     ensures { λ r. ⌜ r ≡ startDcf c tid «when» (now (dcf .entry)) (roomIn (now (store .entry)) c) ⌝ }
-    ensures { λ r. ⌜ now (store .exit) ≡ withRoom (now (store .entry)) c (roomWith (startDcf c tid «when» (now (dcf .entry)) (roomIn (now (store .entry)) c)) (now (dcf .entry)) (roomIn (now (store .entry)) c)) ⌝ }
+    ensures { λ r. ⌜ now (store .exit) ≡ startedStore (startDcf c tid «when» (now (dcf .entry)) (roomIn (now (store .entry)) c)) (loads (now (dcf .entry))) c (now (store .entry)) ⌝ }
 {
     let a = room_start(c);
-    let e = a + 4096;
+    let e = a + ROOM_SIZE;
     start_concise_dcf_job(c, dcf, tid, when, &mut store[a..e])
 }
 
@@ -71,12 +77,12 @@ pub(crate) fn reply_in(
     cmd: SdoCommand,
     payload: &[u8],
     store: &mut [u8],
-) -> Changed
+) -> Taken
     requires { ⌜ length (now store) ≡ 32768 ⌝ }
     ensures { λ r. ⌜ r ≡ replied (replyOf seq cmd (now (payload .entry)) c (roomIn (now (store .entry)) c)) ⌝ }
-    ensures { λ r. ⌜ now (store .exit) ≡ withRoom (now (store .entry)) c (roomAfter (replyOf seq cmd (now (payload .entry)) c (roomIn (now (store .entry)) c)) (now (payload .entry)) (roomIn (now (store .entry)) c)) ⌝ }
+    ensures { λ r. ⌜ now (store .exit) ≡ repliedStore (replied (replyOf seq cmd (now (payload .entry)) c (roomIn (now (store .entry)) c))) (withRoom (now (store .entry)) c (roomAfter (replyOf seq cmd (now (payload .entry)) c (roomIn (now (store .entry)) c)) (now (payload .entry)) (roomIn (now (store .entry)) c))) (now (store .entry)) ⌝ }
 {
     let a = room_start(c);
-    let e = a + 4096;
+    let e = a + ROOM_SIZE;
     handle_response(c, seq, cmd, payload, &mut store[a..e])
 }

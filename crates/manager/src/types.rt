@@ -1,12 +1,15 @@
-// The answers of the manager's calls.
+// The answers of the manager's calls, and what a call changes.
 use codec::command::SdoCommand;
 use codec::refusal::Refusal;
 use codec::sequence::SequenceLayerHeader;
-use sdo::Now;
-use sdo::SdoClientConnection;
-use table::types::Ends;
-use table::types::SdoClientManager;
-use table::types::Turn;
+use con_rec::Now;
+use man_table::types::Ends;
+use man_table::types::Entry;
+use man_table::types::SdoClientManager;
+use man_table::types::Turn;
+
+// The least output that a tick or an ask is lent: the longest payload.
+pub const OUTPUT_SIZE: usize = 1452;
 
 // A command that goes out: its payload is at the start of the output, as long as the segment size says.
 pub struct SentTo {
@@ -28,13 +31,6 @@ pub struct Done {
     pub ends: Ends,
 }
 
-// Where a call puts a connection: nowhere, at a place of those held, or in a new place by its node.
-pub enum Entry {
-    Nowhere,
-    At(usize, SdoClientConnection),
-    New(SdoClientConnection),
-}
-
 // What a call changes, where it changes one connection at most: so the manager need not be copied. A start takes the next transaction number;
 // a tick, an ask and a reply remove the connections that have ended.
 pub struct Change {
@@ -44,14 +40,8 @@ pub struct Change {
     pub answer: Answer,
 }
 
-// What a tick or an ask changes; or several connections may change, and the call by value has to be made: which turn, and what it is told.
-pub enum Turning {
-    Changes(Change),
-    Several(Turn, Now),
-}
-
-// The connection that a start's job goes to, or why there is none.
-pub enum Seat {
-    On(SdoClientConnection),
-    Refused(Refusal),
+// How a call is carried out: by a change; or by the walk of a tick or an ask, where several connections may change.
+pub enum Plan {
+    Change(Change),
+    Walk(Turn, Now),
 }

@@ -128,16 +128,16 @@ pub extern "C" fn ostelumiv_read_multiple_param(payload: &[u8]) -> CountFields
 pub extern "C" fn ostelumiv_multiple_param_entry(payload: &[u8], place: usize) -> EntryFields
     ensures { λ r. ⌜ r ≡ entryFields (multipleParamEntry (now (payload .entry)) place) ⌝ }
 {
-    match multiple_param_entry(payload, place) {
-        MultipleParamFound::Entry(e) => EntryFields {
-            found: 1,
-            sub_index: e.sub_index,
-            index: e.index,
-        },
-        MultipleParamFound::NoneSuch => EntryFields {
+    let MultipleParamFound::Entry(e) = multiple_param_entry(payload, place) else {
+        return EntryFields {
             found: 0,
             sub_index: 0,
             index: 0,
-        },
+        };
+    };
+    EntryFields {
+        found: 1,
+        sub_index: e.sub_index,
+        index: e.index,
     }
 }

@@ -1,4 +1,4 @@
 // The replay. Its stdin and stdout beside src/ are document 01's run.
 fn main() {
-    run::replay::replay();
+    replay_run::replay::replay();
 }

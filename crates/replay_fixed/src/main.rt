@@ -1,4 +1,4 @@
 // The replay on the repository's answers, parameters absent (docs/TRACES.md says how they were made).
 fn main() {
-    run::replay::replay();
+    replay_run::replay::replay();
 }

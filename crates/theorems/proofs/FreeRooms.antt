@@ -1,4 +1,4 @@
--- The free room of a table: it is a room, and where fewer than eight are held it is nobody's. Assumes nothing.
+-- The free room of a table: it is a room, and where fewer than eight are held it is nobody's.
 use Prim.Native.Nat.{ℕ, zero, suc, _+_, _*_, _≤_, _<_}
 use native.Mathlib.Omega.{arith}
 use mathlib.Core.Path.{_≡_, refl}
@@ -9,9 +9,9 @@ use lib.ListN.{length}
 use borrow.Author.Tests.{eqb-true, eqb-false, ne-eqb}
 use Rattle.laws.specs.Pick.{pick}
 use Rattle.laws.proofs.Choices.{either}
-use Rattle.table.specs.Table.{freeFrom, freeRoom, roomSize, usesRoom}
+use Rattle.man_table.specs.Table.{freeFrom, freeRoom, roomSize, usesRoom}
 use Rattle.theorems.specs.Types.{SdoClientConnection as Connection}
-use Rattle.theorems.proofs.Alls.{All}
+use Rattle.theorems.proofs.AllLists.{All}
 use Rattle.theorems.proofs.Rooms.{Slotted}
 
 -- ---- it is a room

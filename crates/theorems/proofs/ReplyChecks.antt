@@ -1,4 +1,4 @@
--- A reply is refused for room exactly when it is accepted and takes an upload past the room. Assumes nothing.
+-- A reply is refused for room exactly when it is accepted and takes an upload past the room.
 use Prim.Native.Nat.{ℕ, _+_, _≤_, _<_, _%_}
 use native.Mathlib.Omega.{arith}
 use mathlib.Core.Path.{_≡_, sym, _∙_}
@@ -7,7 +7,7 @@ use lib.Dec.{leb, eqb}
 use lib.ListN.{length}
 use borrow.Author.Tests.{eqb-true, eqb-false, leb-true, leb-false}
 use Rattle.codec.specs.Bytes.{Bytes}
-use Rattle.exchange.specs.Reply.{
+use Rattle.con_reply.specs.Reply.{
   cleared,
   replyFirst,
   replyIn,
@@ -19,7 +19,7 @@ use Rattle.exchange.specs.Reply.{
   storedMore,
 }
 use Rattle.laws.proofs.Choices.{decided}
-use Rattle.table.specs.Table.{roomSize}
+use Rattle.man_table.specs.Table.{roomSize}
 use Rattle.theorems.specs.Causes.{Accepted, Past}
 use Rattle.theorems.specs.Types.{
   Decision,

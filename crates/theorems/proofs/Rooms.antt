@@ -1,4 +1,4 @@
--- Rooms of the store: each starts at a multiple of 4,096 up to 28,672; what is put in one leaves the others as they were. Assumes nothing.
+-- Rooms of the store: each starts at a multiple of 4,096 up to 28,672; what is put in one leaves the others as they were.
 use Prim.Native.Nat.{ℕ, _+_, _-_, _≤_, _<_, min}
 use native.Mathlib.Omega.{arith}
 use mathlib.Core.Path.{_≡_, refl, sym, _∙_, ap}
@@ -9,8 +9,8 @@ use lib.ListN.{length, take, drop, length-append, length-take, length-drop, take
 use lib.Seq.{length-take-le, take-append-le, drop-append-le, drop-append-add, drop-drop, drop-at, take-append-seam}
 use borrow.Author.Tests.{ltb-true, ltb-false}
 use Rattle.codec.specs.Bytes.{Bytes, placed}
-use Rattle.codec.proofs.Writing.{placed-length}
-use Rattle.table.specs.Table.{lastRoom, roomSize, storeSize}
+use Rattle.codec.proofs.WrittenBytes.{placed-length}
+use Rattle.man_table.specs.Table.{lastRoom, roomSize, storeSize}
 pub use Rattle.theorems.specs.Sound.{Slotted}
 
 -- the bytes of the room that starts there
@@ -70,17 +70,6 @@ module _ (store : Bytes) (long : length store ≡ storeSize) where
       ∙ ap (take roomSize) (drop-at (take (min at lastRoom) store) _ (min at lastRoom) (length-take-le (min at lastRoom) store q))
       ∙ ap (λ (n : ℕ). take n (room ++ drop (min at lastRoom + length room) store)) (sym e)
       ∙ take-append-seam room _
-
-  -- its own bytes put back leave the store
-  pub put-back : (at : ℕ) → putAt store at (roomAt store at) ≡ store
-  unfolding placed
-  put-back at =
-      let r : length (roomAt store at) ≡ roomSize = room-length at in
-      append-assoc (take (min at lastRoom) store) (roomAt store at) _
-      ∙ ap (λ (n : ℕ). take (min at lastRoom) store ++ (roomAt store at ++ drop (min at lastRoom + n) store)) r
-      ∙ ap (λ (l : Bytes). take (min at lastRoom) store ++ (roomAt store at ++ l)) (sym (drop-drop roomSize (min at lastRoom) store))
-      ∙ ap (λ (l : Bytes). take (min at lastRoom) store ++ l) (take-append-drop roomSize (drop (min at lastRoom) store))
-      ∙ take-append-drop (min at lastRoom) store
 
   -- what is put in another room leaves this one's bytes
   pub apart : (at other : ℕ) (room : Bytes) → length room ≡ roomSize → Slotted at → Slotted other → (other ≡ at → ⊥)

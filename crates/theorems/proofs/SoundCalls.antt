@@ -1,4 +1,4 @@
--- Ask, tick and a reply leave a sound manager sound, with the store that they leave. Assumes nothing.
+-- Ask, tick and a reply leave a sound manager sound, with the store that they leave.
 use Prim.Native.Nat.{ℕ, _≤_}
 use native.Mathlib.Omega.{arith}
 use mathlib.Core.Path.{_≡_, sym, _∙_, subst}
@@ -6,20 +6,21 @@ use mathlib.Core.List.{List, [], _∷_}
 use lib.ListN.{length, set, length-set}
 use Rattle.codec.specs.Bytes.{Bytes}
 use Rattle.connection.specs.Ask.{askOf}
-use Rattle.exchange.specs.Calls.{changedTo, replies as repliesTo}
-use Rattle.exchange.specs.Consistent.{Consistent}
-use Rattle.exchange.specs.Jobs.{loads as sendsDcf, writes as sendsWrite}
-use Rattle.exchange.specs.Reply.{replied, replyOf, roomAfter}
+use Rattle.con_reply.specs.Consistent.{Consistent}
+use Rattle.con_reply.specs.Jobs.{loads as sendsDcf, writes as sendsWrite}
+use Rattle.con_reply.specs.Reply.{replied, replyOf, roomAfter}
 use Rattle.connection.specs.Tick.{tickOf}
-use Rattle.exchange.proofs.MadeSound.{call-sound, made-sound, made-sound-read}
-use Rattle.exchange.proofs.StepSound.{Steps, ask-sound, tick-sound}
+use Rattle.con_reply.proofs.ReplySound.{reply-sound as replied-sound}
+use Rattle.con_reply.proofs.StartCarries.{begun-job}
+use Rattle.con_reply.proofs.StepSound.{Steps, ask-sound, other-room, read-sound, tick-sound}
+use Rattle.con_reply.proofs.StoresWithin.{replied-room}
 use Rattle.manager.specs.Calls.{Job, jobRoom, loads, reads, roomIn, startJob, withRoom, writes}
-use Rattle.table.specs.Sweep.{running}
-use Rattle.table.specs.Table.{blank, live, roomSize, storeSize, tableOf, heldAt}
-use Rattle.table.specs.Walk.{Walking, turned, walkList}
+use Rattle.man_table.specs.Sweep.{running}
+use Rattle.man_table.specs.Table.{blank, live, roomSize, storeSize, tableOf, heldAt}
+use Rattle.man_table.specs.Walk.{Walking, atTurn, walkList}
 use Rattle.theorems.specs.Sound.{All, Ordered, Sane, Slotted, Sound}
 use Rattle.theorems.specs.Types.{
-  Changed,
+  Taken,
   Now,
   SdoClientConnection as Connection,
   SdoClientManager as Manager,
@@ -28,21 +29,20 @@ use Rattle.theorems.specs.Types.{
   Stepped,
   Turn,
 }
-use Rattle.theorems.proofs.Alls.{Each, all-at, all-by, all-each, all-set, each-set}
+use Rattle.theorems.proofs.AllLists.{Each, all-at, all-by, all-each, all-set, each-set}
 use Rattle.theorems.proofs.Cases.{At}
-use Rattle.theorems.proofs.Fixing.{Same}
-use Rattle.theorems.proofs.JobRooms.{replied-room, replied-same}
-use Rattle.theorems.proofs.Ordering.{ordered-each}
+use Rattle.theorems.proofs.NodeAndRoom.{Same, replied-same}
+use Rattle.theorems.proofs.OrderedTables.{ordered-each}
 use Rattle.theorems.proofs.Rooms.{put-length, room-length}
-use Rattle.theorems.proofs.Sounding.{Fit, each-length, fit-in, other-room, swept-sound}
-use Rattle.theorems.proofs.Walks.{StepBy, WalkBy, same-self, turn-same, walk-by}
+use Rattle.theorems.proofs.SoundTables.{Fit, each-length, fit-in, swept-sound}
+use Rattle.theorems.proofs.WalkSteps.{StepBy, WalkBy, same-self, turn-same, walk-by}
 
 -- a job that starts is consistent with its bytes in the room
-pub started-sound : (job : Job) (c d : Connection) (t : ℕ) (n : Now) (room : Bytes) → startJob job c t n room ≡ Changed.Connection d
-    → Consistent d (jobRoom job (Changed.Connection d) room)
-started-sound (writes index sub bytes) c d t n room e = made-sound c t n (sendsWrite index sub bytes) room d e []
-started-sound (reads index sub) c d t n room e = made-sound-read c t n index sub room d e []
-started-sound (loads dcf) c d t n room e = made-sound c t n (sendsDcf dcf) room d e []
+pub started-sound : (job : Job) (c d : Connection) (t : ℕ) (n : Now) (room : Bytes) → startJob job c t n room ≡ Taken.Connection d
+    → Consistent d (jobRoom job room)
+started-sound (writes index sub bytes) c d t n room e = begun-job c t n (sendsWrite index sub bytes) room d e .consistent
+started-sound (reads index sub) c d t n room e = read-sound c t n index sub room d e
+started-sound (loads dcf) c d t n room e = begun-job c t n (sendsDcf dcf) room d e .consistent
 
 -- a step keeps node and room, and what is fit
 abbrev Keeps : Bytes → Connection → Connection → Type 0
@@ -58,7 +58,7 @@ step-keeps store c (Stepped.Went s) f i = (
       fit-in c (s .connection) store (roomIn store c) f (h .slotted) (rw (f .1)) (i (h .consistent)),
 )
 
-turn-keeps : (store : Bytes) (t : Turn) (n : Now) (c : Connection) → StepBy (Keeps store) c (turned t c n)
+turn-keeps : (store : Bytes) (t : Turn) (n : Now) (c : Connection) → StepBy (Keeps store) c (atTurn t c n)
 turn-keeps store Turn.Asking n c =
     step-keeps store c (askOf c n) (turn-same Turn.Asking n c) (λ i. ask-sound c (roomIn store c) i n)
 turn-keeps store Turn.Ticking n c =
@@ -128,7 +128,7 @@ module _ (m : Manager) (store : Bytes) (sound : Sound m store) where
   -- ---- reply
   pub reply-sound : (node : ℕ) (seq : SequenceLayerHeader) (cmd : SdoCommand) (payload : Bytes) (k : ℕ) (d : Connection)
       → length store ≡ storeSize → At node (live m) k
-      → replied (replyOf seq cmd payload (heldAt m k) (roomIn store (heldAt m k))) ≡ Changed.Connection d
+      → replied (replyOf seq cmd payload (heldAt m k) (roomIn store (heldAt m k))) ≡ Taken.Connection d
       → Sound (tableOf (running (set (live m) k d)) (m .«next_transaction_id»))
       (withRoom store (heldAt m k)
       (roomAfter (replyOf seq cmd payload (heldAt m k) (roomIn store (heldAt m k))) payload (roomIn store (heldAt m k))))
@@ -139,8 +139,7 @@ module _ (m : Manager) (store : Bytes) (sound : Sound m store) where
       let size : length room ≡ roomSize = replied-room seq cmd payload c before ∙ room-length store long (c .room) in
       let s : Same c d = replied-same seq cmd payload c before d e in
       let held : Fit store c = all-at (Fit store) (live m) k blank (at .1) fit in
-      let i : Consistent d room =
-      subst (λ (x : Changed). Consistent (changedTo x c) room) e (call-sound (repliesTo seq cmd payload) c before (held .consistent)) in
+      let i : Consistent d room = replied-sound c before (held .consistent) seq cmd payload d e in
       swept-sound (set (live m) k d) (m .«next_transaction_id») (withRoom store c room) (few-set k d) (ordered-set k d s)
       (all-set (Fit (withRoom store c room)) (live m) k d (fit-new long c room size d s (held .slotted) i)
       (all-by (Fit store) (Fit (withRoom store c room)) (fit-there long c room size) (live m) fit))

@@ -1,33 +1,32 @@
--- A start leaves a sound manager sound, with the store that it leaves. Assumes nothing.
+-- A start leaves a sound manager sound, with the store that it leaves.
 use Prim.Native.Nat.{ℕ, _<_}
 use native.Mathlib.Omega.{arith}
 use mathlib.Core.Path.{_≡_, refl, sym, _∙_, ap, subst}
 use mathlib.Core.List.{List}
 use lib.ListN.{length, set}
 use Rattle.codec.specs.Bytes.{Bytes}
-use Rattle.exchange.proofs.MadeSound.{new-sound}
-use Rattle.manager.specs.Calls.{Job, jobRoom, numberOf, roomIn, stepped}
-use Rattle.table.specs.Table.{freeRoom, insertIn, live, placeIn, roomSize, storeSize, tableOf, heldAt}
-use Rattle.theorems.specs.Run.{called, starts}
+use Rattle.con_reply.proofs.StepSound.{new-sound}
+use Rattle.manager.specs.Calls.{Job, called, jobRoom, numberOf, roomIn, starts}
+use Rattle.man_table.specs.Table.{freeRoom, insertIn, live, placeIn, roomSize, storeSize, tableOf, heldAt}
 use Rattle.theorems.specs.Sound.{All, Sane, Slotted, Sound}
 use Rattle.theorems.specs.Types.{
   Answer,
-  Changed,
+  Taken,
   End,
   Now,
   SdoClientConnection as Connection,
   SdoClientManager as Manager,
 }
-use Rattle.theorems.proofs.Alls.{all-by, all-insert, all-set}
+use Rattle.theorems.specs.Untouched.{stepped}
+use Rattle.theorems.proofs.AllLists.{all-by, all-insert, all-set}
 use Rattle.theorems.proofs.Cases.{Absent, At}
-use Rattle.theorems.proofs.Fixing.{Same}
+use Rattle.theorems.proofs.NodeAndRoom.{Same}
 use Rattle.theorems.proofs.FreeRooms.{Nobodys, free-nobodys, free-slotted}
-use Rattle.theorems.proofs.JobRooms.{started-room, started-same}
-use Rattle.theorems.proofs.Ordering.{ordered-insert}
+use Rattle.theorems.proofs.JobStarts.{started-room, started-runs, started-same}
+use Rattle.theorems.proofs.OrderedTables.{ordered-insert}
 use Rattle.theorems.proofs.Rooms.{room-length}
-use Rattle.theorems.proofs.Running.{started-runs}
 use Rattle.theorems.proofs.SoundCalls.{few-set, fit-new, ordered-set, sane-there, slot-at, started-sound}
-use Rattle.theorems.proofs.Sounding.{insert-length, number-next, sane-of, sound-table}
+use Rattle.theorems.proofs.SoundTables.{insert-length, number-next, sane-of, sound-table}
 use Rattle.theorems.proofs.StartBy.{fresh, start-by, startOn, storeWith}
 
 module _ (m : Manager) (store : Bytes) (sound : Sound m store) (node : ℕ) (job : Job) (n : Now) where
@@ -48,9 +47,9 @@ module _ (m : Manager) (store : Bytes) (sound : Sound m store) (node : ℕ) (job
 
   -- a connection that was started, in the store with its job's bytes
   module _ (long : length store ≡ storeSize) (c d : Connection) (slot : Slotted (c .room))
-      (e : startOn m job n store c ≡ Changed.Connection d) where
+      (e : startOn m job n store c ≡ Taken.Connection d) where
     abbrev room : Bytes
-    room = jobRoom job (Changed.Connection d) (roomIn store c)
+    room = jobRoom job (roomIn store c)
 
     size : length room ≡ roomSize
     size = started-room job c d (numberOf m) n (roomIn store c) e ∙ room-length store long (c .room)
@@ -58,24 +57,24 @@ module _ (m : Manager) (store : Bytes) (sound : Sound m store) (node : ℕ) (job
     fixed : Same c d
     fixed = started-same job c d (numberOf m) n (roomIn store c) e
 
-    sane : Sane (storeWith job store c d) d
+    sane : Sane (storeWith job store c) d
     sane =
-        sane-of (storeWith job store c d) d
+        sane-of (storeWith job store c) d
         (started-runs job c d (numberOf m) n (roomIn store c) e)
         (fit-new m store sound long c room size d fixed slot (started-sound job c d (numberOf m) n (roomIn store c) e))
 
-    others : All (Sane (storeWith job store c d)) (live m)
-    others = all-by (Sane store) (Sane (storeWith job store c d)) (sane-there m store sound long c room size) (live m) (sound .each)
+    others : All (Sane (storeWith job store c)) (live m)
+    others = all-by (Sane store) (Sane (storeWith job store c)) (sane-there m store sound long c room size) (live m) (sound .each)
 
   again-sound : (k : ℕ) (d : Connection) → length store ≡ storeSize → At node (live m) k
-      → startOn m job n store (heldAt m k) ≡ Changed.Connection d
-      → Sound (tableOf (set (live m) k d) (numberOf m)) (storeWith job store (heldAt m k) d)
+      → startOn m job n store (heldAt m k) ≡ Taken.Connection d
+      → Sound (tableOf (set (live m) k d) (numberOf m)) (storeWith job store (heldAt m k))
   again-sound k d long at e =
       let c : Connection = heldAt m k in
       let slot : Slotted (c .room) = slot-at m store sound node k at in
-      sound-table (set (live m) k d) (numberOf m) (storeWith job store c d) (few-set m store sound k d)
+      sound-table (set (live m) k d) (numberOf m) (storeWith job store c) (few-set m store sound k d)
       (ordered-set m store sound k d (fixed long c d slot e))
-      (all-set (Sane (storeWith job store c d)) (live m) k d (sane long c d slot e) (others long c d slot e))
+      (all-set (Sane (storeWith job store c)) (live m) k d (sane long c d slot e) (others long c d slot e))
       (number-next m (sound .number))
 
   -- a new connection, in a room that was nobody's
@@ -89,12 +88,12 @@ module _ (m : Manager) (store : Bytes) (sound : Sound m store) (node : ℕ) (job
       (number-next m (sound .number))
 
   enters-sound : (d : Connection) → length store ≡ storeSize → Absent node (live m) → length (live m) < 8
-      → startOn m job n store (fresh m node) ≡ Changed.Connection d
-      → Sound (tableOf (insertIn d (live m)) (numberOf m)) (storeWith job store (fresh m node) d)
+      → startOn m job n store (fresh m node) ≡ Taken.Connection d
+      → Sound (tableOf (insertIn d (live m)) (numberOf m)) (storeWith job store (fresh m node))
   enters-sound d long none few e =
       let c : Connection = fresh m node in
       let slot : Slotted (freeRoom (live m)) = free-slotted (live m) in
-      inserted-sound d (storeWith job store c d) none few (fixed long c d slot e) (sane long c d slot e) (others long c d slot e)
+      inserted-sound d (storeWith job store c) none few (fixed long c d slot e) (sane long c d slot e) (others long c d slot e)
 
   idles-sound : Absent node (live m) → length (live m) < 8
       → Sound (tableOf (insertIn (fresh m node) (live m)) (numberOf m)) store
@@ -108,8 +107,8 @@ module _ (m : Manager) (store : Bytes) (sound : Sound m store) (node : ℕ) (job
       })
       (sound .each)
 
-  pub start-sound : Sound (called m store (starts node job n) .manager) (called m store (starts node job n) .store)
-  unfolding called
-  start-sound =
-      start-by m node job n store (λ (k : Manager) (s : Bytes) (x : Answer) (es : List End). Sound k s)
-      (λ r. sound) (λ r. counts-sound) again-sound enters-sound (λ r long none few. idles-sound none few)
+  pub start-sound : (output : Bytes)
+      → Sound (called m store output (starts node job n) .done .manager) (called m store output (starts node job n) .store)
+  start-sound output =
+      start-by m node job n store output (λ (k : Manager) (s out : Bytes) (x : Answer) (es : List End). Sound k s)
+      (λ r e. sound) (λ r e k f. counts-sound) again-sound enters-sound (λ r e f none few. idles-sound none few)

@@ -1,4 +1,4 @@
--- A node's connection in the table, and the others: it stands there once, in a room that no other one has. Assumes nothing.
+-- A node's connection in the table, and the others: it stands there once, in a room that no other one has.
 use Prim.Native.Nat.{ℕ, zero, suc, _<_}
 use native.Mathlib.Omega.{arith}
 use mathlib.Core.Path.{_≡_, refl, sym, _∙_}
@@ -8,20 +8,20 @@ use lib.ListN.{length, getD, set}
 use borrow.Author.Tests.{eq-eqb, ne-eqb}
 use Rattle.laws.specs.Pick.{pick}
 use Rattle.codec.specs.Bytes.{Bytes}
-use Rattle.exchange.specs.Delivery.{ForEnd}
-use Rattle.sdo.specs.Record.{endWith}
-use Rattle.exchange.proofs.Carrying.{Aim, Carries, Leaves, Left, leave}
+use Rattle.con_reply.specs.Delivery.{ForEnd}
+use Rattle.con_rec.specs.Record.{endWith}
+use Rattle.con_reply.proofs.JobCarried.{Aim, Carries, Leaves, Left, leave}
 use Rattle.laws.proofs.Choices.{either}
-use Rattle.table.specs.Sweep.{endsIn, running, unlessEnd, withEnd}
-use Rattle.table.specs.Table.{blank, insertAt, insertIn, placeIn}
+use Rattle.man_table.specs.Sweep.{endsIn, running, unlessEnd, withEnd}
+use Rattle.man_table.specs.Table.{blank, insertAt, insertIn, placeIn}
 use Rattle.theorems.specs.Demand.{endFor}
 use Rattle.theorems.specs.Types.{End, EndFound, Outcome, SdoClientConnection as Connection}
-use Rattle.theorems.proofs.Alls.{All, all-at, all-insert}
+use Rattle.theorems.proofs.AllLists.{All, all-at, all-insert}
 use Rattle.theorems.proofs.Cases.{Absent}
-use Rattle.theorems.proofs.Fixing.{Same}
+use Rattle.theorems.proofs.NodeAndRoom.{Same}
 use Rattle.theorems.proofs.FreeRooms.{Nobodys}
 use Rattle.theorems.proofs.Rooms.{Slotted}
-use Rattle.theorems.proofs.Walks.{all-running}
+use Rattle.theorems.proofs.WalkSteps.{all-running}
 
 -- a connection of another node, in another room
 pub record Other (node at : ℕ) (c : Connection) : Type 0 where

@@ -1,5 +1,5 @@
 -- The walk of ask and tick over a table in which a node is tracked: what ask gives the node, read from the answer and the output, is what
--- its connection says; what others give does not count. Assumes nothing.
+-- its connection says; what others give does not count.
 use Prim.Native.Nat.{ℕ, _≤_, _<_}
 use native.Mathlib.Omega.{arith}
 use mathlib.Core.Path.{_≡_, refl, sym, _∙_, ap, subst}
@@ -11,17 +11,15 @@ use Rattle.laws.specs.Pick.{pick}
 use Rattle.codec.specs.Bytes.{Bytes}
 use Rattle.codec.specs.Writing.{bufferAfter}
 use Rattle.connection.specs.Ask.{askOf}
-use Rattle.exchange.specs.Calls.{Sized, logged, sentOf}
-use Rattle.sdo.specs.Commands.{commandOf}
-use Rattle.exchange.specs.Delivery.{Sent}
-use Rattle.sdo.specs.Payload.{payloadOf}
+use Rattle.con_rec.specs.Commands.{commandOf}
+use Rattle.con_reply.specs.Sent.{Sent, Sized, logged, sentOf}
+use Rattle.con_rec.specs.Payload.{payloadOf}
 use Rattle.connection.specs.Tick.{tickOf}
-use Rattle.exchange.proofs.Answering.{tick-kept}
-use Rattle.exchange.proofs.Asking.{ask-kept}
-use Rattle.exchange.proofs.Carrying.{Aim, Asked, Left, Ticked, joinedBy}
+use Rattle.con_reply.proofs.JobCarried.{Aim, Asked, Left, Ticked, joinedBy}
+use Rattle.con_reply.proofs.StepCarries.{ask-kept, tick-kept}
 use Rattle.manager.specs.Calls.{roomIn, sentTo}
-use Rattle.table.specs.Table.{blank}
-use Rattle.table.specs.Walk.{Walking, passed, refused, stopOr, stopped, through, turned, walkList, walkStep}
+use Rattle.man_table.specs.Table.{blank}
+use Rattle.man_table.specs.Walk.{Walking, passed, refused, stopOr, stopped, through, atTurn, walkList, walkStep}
 use Rattle.theorems.specs.Demand.{commandIn, givenTo}
 use Rattle.theorems.specs.Types.{
   Now,
@@ -31,11 +29,11 @@ use Rattle.theorems.specs.Types.{
   Stepped,
   Turn,
 }
-use Rattle.theorems.proofs.Alls.{Each, all-at, all-each}
-use Rattle.theorems.proofs.Fixing.{Same}
+use Rattle.theorems.proofs.AllLists.{Each, all-at, all-each}
+use Rattle.theorems.proofs.NodeAndRoom.{Same}
 use Rattle.theorems.proofs.Rooms.{roomAt}
 use Rattle.theorems.proofs.Tracked.{Held, Other, Others, Tracks, here, there, left-of, other-same, tracks-by}
-use Rattle.theorems.proofs.Walks.{StepBy, WalkBy, turn-same, walk-same}
+use Rattle.theorems.proofs.WalkSteps.{StepBy, WalkBy, turn-same, walk-same}
 
 -- what of a walk's command counts for the node
 abbrev pub countsTo : ℕ → Turn → Bytes → Bytes → Connection → Outgoing → List Sent
@@ -51,7 +49,7 @@ abbrev StepGoes : Aim → List Bytes → Turn → Stepped → Type 0
 StepGoes a got t (Stepped.Went s) = Goes a got t (s .sends) (s .connection)
 StepGoes a got t (Stepped.Refused r) = Unit {0}
 
-turn-goes : (a : Aim) (got : List Bytes) (t : Turn) (n : Now) (c : Connection) → Held a got c → StepGoes a got t (turned t c n)
+turn-goes : (a : Aim) (got : List Bytes) (t : Turn) (n : Now) (c : Connection) → Held a got c → StepGoes a got t (atTurn t c n)
 unfolding Asked Ticked
 turn-goes a got Turn.Asking n c h = go (askOf c n) (ask-kept a got c n (h .runs) (h .carries))
   where
@@ -152,6 +150,6 @@ module _ (a : Aim) (node at : ℕ) (got : List Bytes) (t : Turn) (n : Now) (stor
 
   pub walk-good : {l : List Connection} → Tracks node at (Held a got) l → Good (walkList t n l)
   walk-good (here {c = c} {l = l} e f h o) =
-      step-here c (turned t c n) l (walkList t n l) e f (turn-goes a got t n c h) (turn-same t n c) o (walk-same t n l)
+      step-here c (atTurn t c n) l (walkList t n l) e f (turn-goes a got t n c h) (turn-same t n c) o (walk-same t n l)
   walk-good (there {c = c} {l = l} o u) =
-      step-there c (turned t c n) l (walkList t n l) o (turn-same t n c) u (walk-good u)
+      step-there c (atTurn t c n) l (walkList t n l) o (turn-same t n c) u (walk-good u)

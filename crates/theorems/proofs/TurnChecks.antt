@@ -1,42 +1,43 @@
--- The walk of ask and tick is refused exactly when it comes to a connection that sets a deadline, and the deadline does not fit. Assumes
--- nothing.
-use Prim.Native.Nat.{ℕ, _≤_}
+-- The walk of ask and tick is refused exactly when it comes to a connection that sets a deadline, and the deadline does not fit.
+use Prim.Native.Nat.{ℕ}
 use native.Mathlib.Omega.{arith}
 use mathlib.Core.Path.{_≡_, refl}
-use mathlib.Core.Bool.{Bool, true, false}
 use mathlib.Core.List.{List, [], _∷_}
-use lib.Dec.{ltb, leb, eqb}
-use borrow.Author.Tests.{leb-true, leb-false}
+use borrow.Author.Tests.{le-ltb, lt-ltb, ne-eqb}
 use Rattle.laws.specs.Pick.{pick}
-use Rattle.connection.specs.Ask.{askFirst, askFree as askFreeOf, askIn, askLater, askOf, askRead, given, givenAt, quiet}
-use Rattle.sdo.specs.Deadline.{deadlineOf, due, latest}
-use Rattle.connection.specs.Tick.{retriedAt, tickAt, tickOf, timedOut}
-use Rattle.laws.proofs.Choices.{decided}
-use Rattle.table.specs.Walk.{Walking, passed, refused, stopOr, stopped, through, turned, walkList, walkStep}
-use Rattle.theorems.specs.Causes.{
-  Does,
-  Meets,
-  OutOfRange,
-  Sets,
-  askDoes,
-  askFree,
-  askLoaded,
-  askReads,
-  askState,
-  passes,
-  sets,
-  stops,
-  tickDoes,
-  tickDue,
+use Rattle.connection.proofs.TurnView.{
+  AskView,
+  Given,
+  Silent,
+  TickView,
+  again,
+  ask-view,
+  closed,
+  early,
+  ends,
+  first,
+  gives,
+  idle,
+  late,
+  later,
+  never,
+  next,
+  opening,
+  over,
+  reading,
+  reads,
+  silent,
+  tick-view,
+  unloaded,
+  waits,
 }
+use Rattle.connection.specs.Ask.{askOf}
+use Rattle.connection.specs.Tick.{tickOf}
+use Rattle.man_table.specs.Walk.{Walking, passed, refused, stopOr, stopped, through, atTurn, walkList, walkStep}
+use Rattle.theorems.specs.Causes.{Does, Meets, OutOfRange, Sets, askDoes, passes, sets, stops, tickDoes, turnDoes}
 use Rattle.theorems.specs.Types.{
-  Deadline,
-  LoadedTransfer,
-  Moment,
   Now,
   Outgoing,
-  Outstanding,
-  PendingRead,
   Refusal,
   SdoClientConnection as Connection,
   SdoClientConnectionState as State,
@@ -44,10 +45,6 @@ use Rattle.theorems.specs.Types.{
   Stepped,
   Turn,
 }
-
-abbrev pub doesAt : Turn → Now → Connection → Does
-doesAt Turn.Asking n c = askDoes n c
-doesAt Turn.Ticking n c = tickDoes n c
 
 -- ---- what a step is, by what the connection does
 abbrev GivesNone : Sends → Type 0
@@ -66,78 +63,42 @@ StepAs n sets (Stepped.Refused r) = (r ≡ Refusal.DeadlineRange) × OutOfRange 
 StepAs n stops (Stepped.Went s) = GivesSome (s .sends)
 StepAs n stops (Stepped.Refused r) = ⊥
 
-module _ (c : Connection) (n : Now) where
-  fits : due (n .time) (n .timeout) ≤ latest → OutOfRange n → ⊥
-  fits h k = omega arith
+silent-does : (c : Connection) (n : Now) → Silent c → askDoes n c ≡ passes
+silent-does c n (waits e) = rw e
+silent-does c n (idle f s) = rw (f, s)
+silent-does c n (reads f s) = rw (f, s)
+silent-does c n (closed f s) = rw (f, s)
+silent-does c n (unloaded f s l) = rw (f, s, l)
 
-  quiet-as : (d : Connection) → StepAs n passes (quiet d)
-  unfolding StepAs
-  quiet-as d = tt
+given-does : (c : Connection) (n : Now) {s : State} {sent : ℕ} {o : Outgoing} → Given c s sent o → askDoes n c ≡ sets
+given-does c n (opening f s) = rw (f, s)
+given-does c n (first f s l) = rw (f, s, l)
+given-does c n (reading f s l p) = rw (f, s, l, p)
+given-does c n (next f s) = rw (f, s)
+given-does c n (later f s l) = rw (f, s, l)
 
-  given-as : (s : State) (m : ℕ) (o : Outgoing) → StepAs n sets (given c n s m o)
-  unfolding StepAs given deadlineOf
-  given-as s m o =
-      decided (λ (x : Moment). StepAs n sets (givenAt x c n s m o)) (leb (due (n .time) (n .timeout)) latest)
-      (Moment.At (due (n .time) (n .timeout))) Moment.OutOfRange (λ h. fits (leb-true _ _ h)) (λ h. (refl, leb-false _ _ h))
+ask-as : (c : Connection) (n : Now) → StepAs n (askDoes n c) (askOf c n)
+unfolding StepAs
+ask-as c n = go (ask-view c n)
+  where
+    go : {x : Stepped} → AskView c n x → StepAs n (askDoes n c) x
+    go (silent w) = rw (silent-does c n w) tt
+    go (ends f s l p) = rw (f, s, l, p) tt
+    go (gives g h) = rw (given-does c n g) (λ z. omega arith)
+    go (late g h) = rw (given-does c n g) (refl, h)
 
-  -- ---- ask
-  read-as : (x : PendingRead) → StepAs n (askReads x) (askRead x c n)
-  read-as (PendingRead.Read index sub) = given-as _ _ _
-  read-as PendingRead.NoRead = quiet-as _
+tick-as : (c : Connection) (n : Now) → StepAs n (tickDoes n c) (tickOf c n)
+unfolding StepAs pick
+tick-as c n = go (tick-view c n)
+  where
+    go : {x : Stepped} → TickView c n x → StepAs n (tickDoes n c) x
+    go (never e) = rw e tt
+    go (early {d} e h) = rw (e, lt-ltb (n .time) d h) tt
+    go (over {d} e h r) = rw (e, le-ltb (n .time) d h, r) tt
+    go (again {d} e h r k) = rw (e, le-ltb (n .time) d h, ne-eqb _ 0 r) (λ z. omega arith)
+    go (late {d} e h r k) = rw (e, le-ltb (n .time) d h, ne-eqb _ 0 r) (refl, k)
 
-  first-as : (x : LoadedTransfer) → StepAs n (askLoaded x (askReads (c .job .«pending_read»))) (askFirst x c n)
-  first-as (LoadedTransfer.Loaded t) = given-as _ _ _
-  first-as LoadedTransfer.Unloaded = read-as (c .job .«pending_read»)
-
-  later-as : (x : LoadedTransfer) → StepAs n (askLoaded x passes) (askLater x c n)
-  later-as (LoadedTransfer.Loaded t) = given-as _ _ _
-  later-as LoadedTransfer.Unloaded = quiet-as c
-
-  in-as : (s : State) → StepAs n (askState s c) (askIn s c n)
-  in-as State.Idle = quiet-as c
-  in-as State.Opening = given-as _ _ _
-  in-as State.Established = first-as (c .job .loaded)
-  in-as State.UploadInit = quiet-as c
-  in-as State.UploadInProgress = given-as _ _ _
-  in-as State.DownloadInProgress = later-as (c .job .loaded)
-  in-as State.Closed = quiet-as c
-
-  free-as : (x : Outstanding) → StepAs n (askFree x c) (askFreeOf x c n)
-  free-as (Outstanding.Waits o) = quiet-as c
-  free-as Outstanding.Nothing = in-as (c .state)
-
-  ask-as : StepAs n (askDoes n c) (askOf c n)
-  unfolding askOf
-  ask-as = free-as (c .waiting .«last_sent_command»)
-
-  -- ---- tick
-  retried-as : StepAs n sets (retriedAt (deadlineOf (n .time) (n .timeout)) c)
-  unfolding StepAs deadlineOf
-  retried-as =
-      decided (λ (x : Moment). StepAs n sets (retriedAt x c)) (leb (due (n .time) (n .timeout)) latest)
-      (Moment.At (due (n .time) (n .timeout))) Moment.OutOfRange (λ h. fits (leb-true _ _ h)) (λ h. (refl, leb-false _ _ h))
-
-  over-as : StepAs n stops (timedOut c)
-  unfolding StepAs
-  over-as = tt
-
-  due-as : (d : Deadline) → StepAs n (tickDue d n c) (tickAt d c n)
-  unfolding pick
-  due-as Deadline.Never = quiet-as c
-  due-as (Deadline.At d) = go (ltb (n .time) d) (eqb (c .waiting .«retries_left») 0)
-    where
-      go : (a b : Bool)
-          → StepAs n (pick a passes (pick b stops sets))
-          (pick a (quiet c) (pick b (timedOut c) (retriedAt (deadlineOf (n .time) (n .timeout)) c)))
-      go true b = quiet-as c
-      go false true = over-as
-      go false false = retried-as
-
-  tick-as : StepAs n (tickDoes n c) (tickOf c n)
-  unfolding tickOf
-  tick-as = due-as (c .waiting .deadline)
-
-turn-as : (t : Turn) (n : Now) (c : Connection) → StepAs n (doesAt t n c) (turned t c n)
+turn-as : (t : Turn) (n : Now) (c : Connection) → StepAs n (turnDoes t n c) (atTurn t c n)
 turn-as Turn.Asking n c = ask-as c n
 turn-as Turn.Ticking n c = tick-as c n
 
@@ -181,7 +142,7 @@ module _ (n : Now) (Rest : Type 0) (l : List Connection) (w : Walking) (h : Refu
   step-walk stops (Stepped.Went s) g = stops-as (s .sends) (s .connection) g
   step-walk stops (Stepped.Refused r) g = absurd g
 
-pub walk-if : (t : Turn) (n : Now) (l : List Connection) → RefusedIf (OutOfRange n × Sets (doesAt t n) l) (walkList t n l)
+pub walk-if : (t : Turn) (n : Now) (l : List Connection) → RefusedIf (OutOfRange n × Sets (turnDoes t n) l) (walkList t n l)
 walk-if t n [] = λ z. z .1
 walk-if t n (c ∷ l) =
-    step-walk n (Sets (doesAt t n) l) l (walkList t n l) (walk-if t n l) (doesAt t n c) (turned t c n) (turn-as t n c)
+    step-walk n (Sets (turnDoes t n) l) l (walkList t n l) (walk-if t n l) (turnDoes t n c) (atTurn t c n) (turn-as t n c)

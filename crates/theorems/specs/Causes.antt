@@ -9,11 +9,11 @@ use lib.Dec.{ltb, eqb}
 use lib.ListN.{length}
 use Rattle.laws.specs.Pick.{pick}
 use Rattle.codec.specs.Bytes.{Bytes}
-use Rattle.sdo.specs.Deadline.{due, latest}
+use Rattle.con_rec.specs.Deadline.{due, latest}
 use Rattle.connection.specs.Start.{isIdle}
-use Rattle.manager.specs.Calls.{Job, loads, reads, writes}
-use Rattle.table.specs.Table.{findIn, live, roomSize, storeSize, heldAt}
-use Rattle.theorems.specs.Run.{Call, Host, asks, called, reached, replies, starts, ticks}
+use Rattle.manager.specs.Calls.{Call, Job, loads, outputSize, reads, replies, starts, turns, writes}
+use Rattle.man_table.specs.Table.{findIn, live, roomSize, storeSize, heldAt}
+use Rattle.theorems.specs.Run.{Event, Host, made, reached}
 use Rattle.theorems.specs.Types.{
   Answer,
   Deadline,
@@ -29,6 +29,7 @@ use Rattle.theorems.specs.Types.{
   SdoCommand,
   Segmentation,
   SequenceLayerHeader,
+  Turn,
 }
 
 -- a refusal, and the cause for which it is given
@@ -127,6 +128,10 @@ tickDue (Deadline.At d) n c = pick (ltb (n .time) d) passes (pick (eqb (c .waiti
 abbrev pub tickDoes : Now → SdoClientConnection → Does
 tickDoes n c = tickDue (c .waiting .deadline) n c
 
+abbrev pub turnDoes : Turn → Now → SdoClientConnection → Does
+turnDoes Turn.Asking n c = askDoes n c
+turnDoes Turn.Ticking n c = tickDoes n c
+
 -- the walk comes to a connection that sets a deadline
 abbrev pub Meets : Does → Type 0 → Type 0
 Meets passes rest = rest
@@ -137,11 +142,11 @@ abbrev pub Sets : (SdoClientConnection → Does) → List SdoClientConnection �
 Sets does [] = ⊥
 Sets does (c ∷ l) = Meets (does c) (Sets does l)
 
-abbrev pub turnChecks : (Now → SdoClientConnection → Does) → SdoClientManager → Bytes → Now → Bytes → List Check
-turnChecks does m store n output =
+abbrev pub turnChecks : Turn → SdoClientManager → Bytes → Now → Bytes → List Check
+turnChecks t m store n output =
     check Refusal.WrongStore (WrongStore store)
-    ∷ check Refusal.BufferTooShort (length output < 1452)
-    ∷ check Refusal.DeadlineRange (OutOfRange n × Sets (does n) (live m))
+    ∷ check Refusal.BufferTooShort (length output < outputSize)
+    ∷ check Refusal.DeadlineRange (OutOfRange n × Sets (turnDoes t n) (live m))
     ∷ []
 
 -- ---- reply: an accepted reply that takes an upload past 4,096
@@ -181,15 +186,14 @@ replyChecks m store node seq cmd payload =
     ∷ []
 
 -- ---- given exactly when
-abbrev pub checksOf : SdoClientManager → Bytes → Call → List Check
-checksOf m store (starts node job n) = startChecks m store node job n
-checksOf m store (asks n output) = turnChecks askDoes m store n output
-checksOf m store (ticks n output) = turnChecks tickDoes m store n output
-checksOf m store (replies node seq cmd payload) = replyChecks m store node seq cmd payload
+abbrev pub checksOf : SdoClientManager → Bytes → Bytes → Call → List Check
+checksOf m store output (starts node job n) = startChecks m store node job n
+checksOf m store output (turns t n) = turnChecks t m store n output
+checksOf m store output (replies node seq cmd payload) = replyChecks m store node seq cmd payload
 
 unfoldable pub ExactlyWhen : Type 0
 ExactlyWhen =
-    (lent : Bytes) (earlier : List Call) (x : Call) (r : Refusal)
+    (lent : Bytes) (earlier : List Event) (x : Event) (r : Refusal)
     → let host : Host = reached lent earlier in
-    (called (host .manager) (host .store) x .answer ≡ Answer.Refused r → First (checksOf (host .manager) (host .store) x) r)
-    × (First (checksOf (host .manager) (host .store) x) r → called (host .manager) (host .store) x .answer ≡ Answer.Refused r)
+    let checks : List Check = checksOf (host .manager) (host .store) (x .output) (x .call) in
+    (made host x .done .answer ≡ Answer.Refused r → First checks r) × (First checks r → made host x .done .answer ≡ Answer.Refused r)

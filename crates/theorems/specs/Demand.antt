@@ -7,11 +7,12 @@ use lib.Dec.{eqb}
 use lib.ListN.{take}
 use Rattle.laws.specs.Pick.{pick}
 use Rattle.codec.specs.Bytes.{Bytes}
-use Rattle.exchange.specs.Delivery.{For, Sent, pieces}
-use Rattle.exchange.specs.Jobs.{Job as Sending, counted, entriesOf, loads, writes}
-use Rattle.manager.specs.Calls.{Job, loads as startsDcf, writes as startsWrite}
-use Rattle.theorems.specs.Run.{After, Call, Host, asks, called, reached, replies, starts, ticks}
-use Rattle.theorems.specs.Types.{Answer, End, EndFound, Now, Outcome, SdoClientManager, SdoCommand}
+use Rattle.con_reply.specs.Delivery.{For, pieces}
+use Rattle.con_reply.specs.Jobs.{Job as Sending, counted, entriesOf, loads, writes}
+use Rattle.con_reply.specs.Sent.{Sent}
+use Rattle.manager.specs.Calls.{After, Call, Job, called, loads as startsDcf, replies, starts, turns, writes as startsWrite}
+use Rattle.theorems.specs.Run.{Event, Host, left, made, reached, reported}
+use Rattle.theorems.specs.Types.{Answer, End, EndFound, Now, Outcome, SdoCommand, Turn}
 
 -- a job that sends, as the start of the manager takes it
 abbrev pub jobOf : Sending → Job
@@ -34,10 +35,13 @@ givenTo node output (Answer.Sent s) = pick (eqb (s .node) node) (commandIn (s .c
 givenTo node output (Answer.Refused r) = []
 
 -- what ask gave a node; what tick gives is a timeout repeat or an abort
+abbrev pub turnAsked : Turn → ℕ → After → List Sent
+turnAsked Turn.Asking node a = givenTo node (a .output) (a .done .answer)
+turnAsked Turn.Ticking node a = []
+
 abbrev pub asked : ℕ → Call → After → List Sent
 asked node (starts k job n) a = []
-asked node (asks n output) a = givenTo node (a .output) (a .answer)
-asked node (ticks n output) a = []
+asked node (turns t n) a = turnAsked t node a
 asked node (replies k seq cmd payload) a = []
 
 -- what ask gave the node since the start, how the job stands, and the delivered figure of its end
@@ -58,18 +62,18 @@ abbrev pub unlessEnded : EndFound → Log → Log
 unlessEnded EndFound.Running on = on
 unlessEnded (EndFound.End e) on = record { sent = []; outcome = Outcome.Ended (e .reason); figure = e .delivered }
 
-abbrev pub follow : ℕ → SdoClientManager → Bytes → List Call → Log
-follow node m store [] = record { sent = []; outcome = Outcome.Running; figure = 0 }
-follow node m store (x ∷ xs) =
-    let a : After = called m store x in
-    behind (asked node x a) (unlessEnded (endFor node (a .ends)) (follow node (a .manager) (a .store) xs))
+abbrev pub follow : ℕ → Host → List Event → Log
+follow node h [] = record { sent = []; outcome = Outcome.Running; figure = 0 }
+follow node h (x ∷ xs) =
+    let a : After = made h x in
+    behind (asked node (x .call) a) (unlessEnded (endFor node (reported a)) (follow node (left a) xs))
 
 -- of any calls from a new manager, a start of a write or a DCF that is taken, and any calls and replies after it
 unfoldable pub Demand3 : Type 0
 Demand3 =
-    (lent : Bytes) (earlier : List Call) (node : ℕ) (job : Sending) (now : Now) (calls : List Call)
+    (lent : Bytes) (earlier : List Event) (node : ℕ) (job : Sending) (now : Now) (later : List Event)
     → let host : Host = reached lent earlier in
-    let start : After = called (host .manager) (host .store) (starts node (jobOf job) now) in
-    let log : Log = follow node (start .manager) (start .store) calls in
-    start .answer ≡ Answer.Nothing
+    let start : After = called (host .manager) (host .store) [] (starts node (jobOf job) now) in
+    let log : Log = follow node (left start) later in
+    start .done .answer ≡ Answer.Nothing
     → For (entriesOf job) (counted job) (pieces (log .sent)) (log .outcome) (log .figure)

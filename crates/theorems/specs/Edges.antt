@@ -12,8 +12,8 @@ use Rattle.codec.specs.declared.command.Segmentation.{Segmentation}
 use Rattle.codec.specs.declared.sequence.ReceiveConnState.{ReceiveConnState}
 use Rattle.codec.specs.declared.sequence.SendConnState.{SendConnState}
 use Rattle.codec.specs.declared.sequence.SequenceRead.{SequenceRead}
-use Rattle.sdo.specs.Parts.{limit}
-use Rattle.sdo.specs.PartsOf.{Part, partsOf}
+use Rattle.con_rec.specs.Parts.{limit}
+use Rattle.con_rec.specs.PartsOf.{Part, partsOf}
 
 -- a DCF is Complete exactly when all counted entries are readable, else Cut
 pub data Ending : Type 0 where

@@ -3,7 +3,7 @@ use Prim.Native.Nat.{_≤_, _<_}
 use mathlib.Core.List.{List, [], _∷_}
 use lib.ListN.{length}
 use Rattle.codec.specs.Bytes.{Bytes}
-use Rattle.theorems.specs.Run.{After, Call, Host, called, reached}
+use Rattle.theorems.specs.Run.{Event, made, reached, reported}
 use Rattle.theorems.specs.Sound.{All}
 use Rattle.theorems.specs.Types.{End}
 
@@ -13,7 +13,5 @@ Ascending (e ∷ l) = All (λ (d : End). e .node < d .node) l × Ascending l
 
 unfoldable pub Reports : Type 0
 Reports =
-    (lent : Bytes) (earlier : List Call) (x : Call)
-    → let host : Host = reached lent earlier in
-    let a : After = called (host .manager) (host .store) x in
-    (length (a .ends) ≤ 8) × Ascending (a .ends)
+    (lent : Bytes) (earlier : List Event) (x : Event)
+    → let ends : List End = reported (made (reached lent earlier) x) in (length ends ≤ 8) × Ascending ends

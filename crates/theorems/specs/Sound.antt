@@ -6,10 +6,10 @@ use mathlib.Core.Bool.{false}
 use mathlib.Core.List.{List, [], _∷_}
 use lib.ListN.{length}
 use Rattle.codec.specs.Bytes.{Bytes}
-use Rattle.exchange.specs.Consistent.{Consistent, isClosed}
+use Rattle.con_reply.specs.Consistent.{Consistent, isClosed}
 use Rattle.manager.specs.Calls.{roomIn}
-use Rattle.table.specs.Table.{lastRoom, live, roomSize, tableOf}
-use Rattle.theorems.specs.Run.{Call, Host, reached}
+use Rattle.man_table.specs.Table.{lastRoom, live, roomSize, tableOf}
+use Rattle.theorems.specs.Run.{Event, Host, reached}
 use Rattle.theorems.specs.Types.{Outcome, SdoClientConnection, SdoClientManager}
 
 abbrev pub All : {A : Type 0} → (A → Type 0) → List A → Type 0
@@ -44,4 +44,4 @@ pub record Sound (m : SdoClientManager) (store : Bytes) : Type 0 where
 
 -- every manager that any calls made of a new one, with any store lent
 unfoldable pub Reached : Type 0
-Reached = (lent : Bytes) (calls : List Call) → let host : Host = reached lent calls in Sound (host .manager) (host .store)
+Reached = (lent : Bytes) (events : List Event) → let host : Host = reached lent events in Sound (host .manager) (host .store)

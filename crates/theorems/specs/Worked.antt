@@ -7,13 +7,14 @@ use lib.ListN.{replicate}
 use Rattle.codec.specs.declared.command.DataSize.{DataSize}
 use Rattle.codec.specs.declared.sequence.ReceiveConnState.{ReceiveConnState}
 use Rattle.codec.specs.declared.sequence.SendConnState.{SendConnState}
-use Rattle.sdo.specs.declared.Parameter.{Parameter}
+use Rattle.con_rec.specs.declared.Parameter.{Parameter}
 use Rattle.codec.specs.Bytes.{Bytes}
-use Rattle.exchange.specs.Delivery.{pieces}
-use Rattle.exchange.specs.Jobs.{Job as Sending}
-use Rattle.table.specs.Table.{newManager}
+use Rattle.con_reply.specs.Delivery.{pieces}
+use Rattle.con_reply.specs.Jobs.{Job as Sending}
+use Rattle.manager.specs.Calls.{After, called, replies, starts, turns}
+use Rattle.man_table.specs.Table.{newManager}
 use Rattle.theorems.specs.Demand.{Log, follow, jobOf}
-use Rattle.theorems.specs.Run.{After, Call, asks, called, replies, starts}
+use Rattle.theorems.specs.Run.{Event, left}
 use Rattle.theorems.specs.Types.{
   Answer,
   CommandId,
@@ -22,6 +23,7 @@ use Rattle.theorems.specs.Types.{
   SdoCommand,
   Segmentation,
   SequenceLayerHeader,
+  Turn,
 }
 
 abbrev pub early : Now
@@ -52,9 +54,12 @@ nil =
       «data_size» = DataSize.Absent;
     }
 
-abbrev pub rounds : ℕ → ℕ → List Call
+abbrev pub rounds : ℕ → ℕ → List Event
 rounds zero k = []
-rounds (suc more) k = asks early (replicate 1452 0) ∷ replies 5 (good k) nil [] ∷ rounds more (suc k)
+rounds (suc more) k =
+    record { call = turns Turn.Asking early; output = replicate 1452 0 }
+    ∷ record { call = replies 5 (good k) nil []; output = [] }
+    ∷ rounds more (suc k)
 
 -- how a job for node 5 comes out
 pub record Out : Type 0 where
@@ -65,6 +70,6 @@ pub record Out : Type 0 where
 
 abbrev pub worked : Sending → Out
 worked job =
-    let start : After = called newManager (replicate 32768 0) (starts 5 (jobOf job) early) in
-    let log : Log = follow 5 (start .manager) (start .store) (rounds 4 0) in
-    record { answer = start .answer; got = pieces (log .sent); outcome = log .outcome; figure = log .figure }
+    let start : After = called newManager (replicate 32768 0) [] (starts 5 (jobOf job) early) in
+    let log : Log = follow 5 (left start) (rounds 4 0) in
+    record { answer = start .done .answer; got = pieces (log .sent); outcome = log .outcome; figure = log .figure }

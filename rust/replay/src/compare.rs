@@ -4,7 +4,7 @@ use crate::cover;
 use crate::generate::Run;
 use crate::line;
 use crate::programs::Program;
-use crate::record::RECORD_BYTES;
+use record::RECORD_BYTES;
 use std::io::{self, Write};
 
 /// After how many traces that differ the comparison is enough.

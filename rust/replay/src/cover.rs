@@ -3,7 +3,7 @@
 
 use crate::counts::Counts;
 use crate::generate::{self, Run};
-use crate::record::{MOST_RECORDS, RECORD_BYTES};
+use record::{MOST_RECORDS, RECORD_BYTES};
 use std::io;
 
 /// What traces reached together, and how much there was of them.

@@ -1,9 +1,9 @@
 //! The replay's gather (document 01, "Replay"), and how a record becomes a call of the library.
 
 use crate::client::{Call, Job, MOST_BYTES};
-use crate::record::{Operation, Record, ABORT, RESPONSE};
 use crate::refusal::Refusal;
 use oracle::{CommandId, CommandLayerHeader, SdoCommand, Segmentation, SequenceLayerHeader};
+use record::{Operation, Record, ABORT, RESPONSE};
 
 /// What a record comes to, before the library has its say.
 #[derive(Debug, Clone, PartialEq)]

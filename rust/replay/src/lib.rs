@@ -21,7 +21,6 @@ mod mirror;
 mod observe;
 mod parameters;
 mod programs;
-mod record;
 mod refusal;
 pub mod rules;
 pub mod stream;

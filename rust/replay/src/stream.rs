@@ -5,10 +5,10 @@ use crate::client::{Answer, Client};
 use crate::gather::{Gather, Turn};
 use crate::line;
 use crate::parameters::{self, PARAMETER_BYTES};
-use crate::record::{Record, RecordBytes, MOST_RECORDS, RECORD_BYTES};
 use crate::refusal::Refusal;
 use crate::watched::Watched;
 use oracle::ObjectDictionary;
+use record::{Record, RecordBytes, MOST_RECORDS, OPERATION, RECORD_BYTES};
 use std::io::{self, Read, Write};
 
 /// How much is read at once, and how much is gathered before it is written.
@@ -35,7 +35,7 @@ pub fn plain(input: impl Read, output: impl Write) -> io::Result<()> {
                     Turn::Gathered => Ok(Answer::default()),
                     Turn::Call(call) => client.call(call),
                 };
-                (Some(bytes[0]), outcome)
+                (Some(bytes[OPERATION]), outcome)
             }
         };
         line::put_line(lines, number, operation, &outcome);

@@ -4,11 +4,11 @@ use crate::client::{Answer, Client, Outcome};
 use crate::gather::{Gather, Turn};
 use crate::line;
 use crate::mirror::Mirrors;
-use crate::record::{Record, RecordBytes};
 use crate::refusal::Refusal;
 use crate::sum::Sum;
 use crate::table::Table;
 use oracle::ObjectDictionary;
+use record::{Record, RecordBytes, OPERATION};
 
 /// A record, and everything around it.
 pub struct Step {
@@ -68,7 +68,7 @@ impl Watched {
                 outcome
             }
         };
-        self.put(Some(bytes[0]), &outcome, read, out);
+        self.put(Some(bytes[OPERATION]), &outcome, read, out);
         Ok(Step {
             bytes: *bytes,
             turn,

@@ -1,8 +1,8 @@
 //! What stands in a line after its operation: nodes, objects, numbers, times and data.
 
 use crate::notation::NUMBERS;
-use crate::record::Object;
 use crate::words::{Fault, Words};
+use std::fmt;
 use std::str::FromStr;
 
 /// The word that begins a time, which ends the data.
@@ -10,6 +10,18 @@ pub const TIME: &str = "at";
 
 /// What may come where data may.
 pub const DATA: &str = "data in hex, 'at' or the end of the line";
+
+/// What is read or written in a node.
+pub struct Object {
+    pub index: u16,
+    pub sub_index: u8,
+}
+
+impl fmt::Display for Object {
+    fn fmt(&self, f: &mut fmt::Formatter<'_>) -> fmt::Result {
+        write!(f, "{:04X}:{:02X}", self.index, self.sub_index)
+    }
+}
 
 pub fn node(words: &mut Words) -> Result<u8, Fault> {
     words.expect("a node, 0 to 255", decimal)

@@ -8,15 +8,10 @@ mod fields;
 mod notation;
 mod operation;
 mod read;
-mod record;
 mod words;
 mod write;
 
 pub use notation::{RECEIVE_STATES, SEND_STATES};
 pub use read::read;
-pub use record::RECORD;
 pub use words::Fault;
 pub use write::{write, Bad};
-
-/// How many records the replay reads; it does not look at what comes after them.
-pub const MOST_RECORDS: usize = 65_535;

@@ -1,9 +1,9 @@
 //! The program `trace`: its arguments, its standard streams and its exit status.
 
+use record::{MOST_RECORDS, RECORD_BYTES};
 use std::env;
 use std::io;
 use std::process::ExitCode;
-use trace::{MOST_RECORDS, RECORD};
 
 const USAGE: &str = "\
 usage: trace write < LINES > RECORDS
@@ -59,8 +59,8 @@ fn main() -> ExitCode {
 fn write() -> io::Result<ExitCode> {
     match trace::write(&program::input()?) {
         Ok(records) => {
-            let count = records.len().div_ceil(RECORD);
-            if count > MOST_RECORDS {
+            let count = records.len().div_ceil(RECORD_BYTES);
+            if count > MOST_RECORDS as usize {
                 let more = format!("{count} records; the replay reads the first {MOST_RECORDS}");
                 program::tell("trace", more);
             }

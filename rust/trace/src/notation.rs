@@ -11,10 +11,7 @@ pub const USUAL_STATES: [u8; 2] = [2, 2];
 /// Sequence numbers are below this.
 pub const NUMBERS: u8 = 64;
 
-/// The flags of a reply.
-pub const RESPONSE: u8 = 0x10;
-pub const ABORT: u8 = 0x20;
-/// Kinds by their segmentation, which stands above the two marks.
+/// Kinds by their segmentation, which stands above the two marks in the flags of a reply.
 pub const KINDS: [&str; 4] = ["expedited", "initiate", "segment", "complete"];
 pub const KIND_UNIT: u8 = 64;
 /// Bits that have no word.

@@ -1,9 +1,9 @@
-//! What a line asks for: its operation and all of its data.
+//! What a line asks for: its operation, as a record without time and data, and all of its data.
 
-use crate::fields::{self, data, node, object, octet, DATA, TIME};
-use crate::notation::{self, ABORT, KIND_UNIT, RESPONSE, USUAL_STATES};
-use crate::record::Operation;
+use crate::fields::{self, data, node, octet, DATA, TIME};
+use crate::notation::{self, KIND_UNIT, USUAL_STATES};
 use crate::words::{Fault, Words};
+use record::{Operation, Record, ABORT, RESPONSE};
 
 const OPERATIONS: &str =
     "an operation: write, read, dcf, reply, tick, ask, gather (or record, short)";
@@ -11,27 +11,38 @@ const AFTER_SEQUENCE: &str = "states such as 'init', a kind ('expedited', 'initi
     'complete'), 'response', 'abort', data in hex or 'at', in this order and each if wanted";
 
 /// An operation and all its data, up to the time or the end of the line.
-pub fn operation(words: &mut Words) -> Result<(Operation, Vec<u8>), Fault> {
+pub fn operation(words: &mut Words) -> Result<(Record<'static>, Vec<u8>), Fault> {
     if words.take("write") {
-        let (node, object) = (node(words)?, object(words)?);
-        Ok((Operation::Write { node, object }, data(words, DATA)?))
+        Ok((on_object(words, Operation::Write)?, data(words, DATA)?))
     } else if words.take("read") {
-        let (node, object) = (node(words)?, object(words)?);
-        Ok((Operation::Read { node, object }, vec![]))
+        Ok((on_object(words, Operation::Read)?, vec![]))
     } else if words.take("dcf") {
         let node = node(words)?;
-        Ok((Operation::Dcf { node }, dcf(words)?))
+        Ok((bare(Operation::Dcf, node), dcf(words)?))
     } else if words.take("reply") {
         reply(words)
     } else if words.take("tick") {
-        Ok((Operation::Tick, vec![]))
+        Ok((bare(Operation::Tick, 0), vec![]))
     } else if words.take("ask") {
-        Ok((Operation::Ask, vec![]))
+        Ok((bare(Operation::Ask, 0), vec![]))
     } else if words.take("gather") {
-        Ok((Operation::Gather, data(words, DATA)?))
+        Ok((bare(Operation::Gather, 0), data(words, DATA)?))
     } else {
         Err(words.fault(OPERATIONS))
     }
+}
+
+fn bare(operation: Operation, node: u8) -> Record<'static> {
+    Record::new(operation, node, 0, &[])
+}
+
+fn on_object(words: &mut Words, operation: Operation) -> Result<Record<'static>, Fault> {
+    let (node, object) = (node(words)?, fields::object(words)?);
+    Ok(Record {
+        index: object.index,
+        sub_index: object.sub_index,
+        ..bare(operation, node)
+    })
 }
 
 /// The bytes of a concise DCF, given as they are or as count and entries.
@@ -50,7 +61,7 @@ fn dcf(words: &mut Words) -> Result<Vec<u8>, Fault> {
     Ok(dcf)
 }
 
-fn reply(words: &mut Words) -> Result<(Operation, Vec<u8>), Fault> {
+fn reply(words: &mut Words) -> Result<(Record<'static>, Vec<u8>), Fault> {
     let node = node(words)?;
     let sequence = sequence(words)?;
     let (flags, data) = if words.take("flags") {
@@ -58,12 +69,12 @@ fn reply(words: &mut Words) -> Result<(Operation, Vec<u8>), Fault> {
     } else {
         flags_and_data(words)?
     };
-    let operation = Operation::Reply {
-        node,
-        sequence,
+    let record = Record {
+        index: u16::from_le_bytes(sequence),
         flags,
+        ..bare(Operation::Reply, node)
     };
-    Ok((operation, data))
+    Ok((record, data))
 }
 
 /// The octets 0 and 1 of the sequence header, given as they are or in words.

@@ -1,12 +1,13 @@
 //! Records to lines, a line each, so that line n is the record that the replay numbers n.
 
-use crate::notation::{self, ABORT, KINDS, KIND_UNIT, RESERVED, RESPONSE, USUAL_STATES};
-use crate::record::{self, Bytes, Operation, Record, RECORD};
+use crate::fields::Object;
+use crate::notation::{self, KINDS, KIND_UNIT, RESERVED, USUAL_STATES};
+use record::{Operation, Record, RecordBytes, ABORT, RECORD_BYTES, RESPONSE, TIME};
 
 /// The lines of a trace. A record is in words where these give all of its bytes back, else in hex,
 /// and so is what there is of a record that was cut.
 pub fn read(trace: &[u8]) -> String {
-    let (records, short) = trace.as_chunks::<RECORD>();
+    let (records, short) = trace.as_chunks::<RECORD_BYTES>();
     let mut reader = Reader::default();
     let mut lines: String = records.iter().map(|bytes| reader.line(bytes)).collect();
     if !short.is_empty() {
@@ -24,17 +25,20 @@ struct Reader {
 }
 
 impl Reader {
-    fn line(&mut self, bytes: &Bytes) -> String {
-        let words = match record::of_bytes(bytes) {
+    fn line(&mut self, bytes: &RecordBytes) -> String {
+        let read = Record::read(bytes);
+        let words = match read.filter(|record| has_words(record, bytes)) {
             Some(record) => self.words(&record),
             None => vec!["record".into(), hex::text(bytes)],
         };
-        self.gathered = record::gathered_after(bytes, self.gathered);
+        if let Some(record) = read {
+            self.gathered = gathered_after(&record, self.gathered);
+        }
         words.join(" ") + "\n"
     }
 
     fn words(&mut self, record: &Record) -> Vec<String> {
-        let mut words = operation_words(record.operation);
+        let mut words = operation_words(record);
         words.extend(self.data_words(record));
         if record.time != self.time {
             self.time = record.time;
@@ -45,8 +49,8 @@ impl Reader {
 
     /// The data, of which an abort's code stands apart. With gathered data the code is among these.
     fn data_words(&self, record: &Record) -> Vec<String> {
-        let data = &record.data;
-        let aborts = matches!(record.operation, Operation::Reply { flags, .. } if aborts(flags));
+        let data = record.data;
+        let aborts = record.operation == Operation::Reply && aborts(record.flags);
         match data.split_first_chunk() {
             _ if data.is_empty() => vec![],
             Some((&code, [])) if aborts && !self.gathered => vec![code_text(code)],
@@ -59,19 +63,38 @@ impl Reader {
     }
 }
 
-fn operation_words(operation: Operation) -> Vec<String> {
-    match operation {
-        Operation::Write { node, object } => vec![format!("write {node} {object}")],
-        Operation::Read { node, object } => vec![format!("read {node} {object}")],
-        Operation::Dcf { node } => vec![format!("dcf {node}")],
-        Operation::Reply {
-            node,
-            sequence,
-            flags,
-        } => {
+/// Whether the words of a record give all of its bytes back: those that nobody looks at are 0, but
+/// for the time, which has words in every record.
+fn has_words(record: &Record, bytes: &RecordBytes) -> bool {
+    let length_used = record.operation.takes_data() || record.data.is_empty();
+    let mut lost = record.unused().filter(|place| !TIME.contains(place));
+    length_used && lost.all(|place| bytes[place] == 0)
+}
+
+/// Whether the replay holds gathered data after a record, given whether it did before. A write, a DCF
+/// and a reply use them up.
+fn gathered_after(record: &Record, before: bool) -> bool {
+    match record.operation {
+        Operation::Gather => before || !record.data.is_empty(),
+        Operation::Write | Operation::Dcf | Operation::Reply => false,
+        Operation::Read | Operation::Tick | Operation::Ask => before,
+    }
+}
+
+fn operation_words(record: &Record) -> Vec<String> {
+    let node = record.node;
+    let object = Object {
+        index: record.index,
+        sub_index: record.sub_index,
+    };
+    match record.operation {
+        Operation::Write => vec![format!("write {node} {object}")],
+        Operation::Read => vec![format!("read {node} {object}")],
+        Operation::Dcf => vec![format!("dcf {node}")],
+        Operation::Reply => {
             let mut words = vec![format!("reply {node}")];
-            words.extend(sequence_words(sequence));
-            words.extend(flags_words(flags));
+            words.extend(sequence_words(record.index.to_le_bytes()));
+            words.extend(flags_words(record.flags));
             words
         }
         Operation::Tick => vec!["tick".into()],

@@ -2,8 +2,8 @@
 
 use crate::fields;
 use crate::operation::operation;
-use crate::record::{self, Operation, Record, MOST_DATA, RECORD};
 use crate::words::{Fault, Words};
+use record::{Operation, Record, MOST_DATA, RECORD_BYTES};
 use std::fmt;
 use std::ops::RangeInclusive;
 
@@ -60,18 +60,18 @@ impl Writer {
             return Err(words.fault("nothing after a short record"));
         }
         if words.take("record") {
-            return self.raw(words, RECORD..=RECORD, "64 hex digits");
+            return self.raw(words, RECORD_BYTES..=RECORD_BYTES, "64 hex digits");
         }
         if words.take("short") {
-            self.raw(words, 1..=RECORD - 1, "2 to 62 hex digits")?;
+            self.raw(words, 1..=RECORD_BYTES - 1, "2 to 62 hex digits")?;
             self.short = true;
             return Ok(());
         }
-        let (operation, data) = operation(words)?;
+        let (record, data) = operation(words)?;
         if let Some(time) = fields::time(words)? {
             self.time = time;
         }
-        self.put(operation, &data);
+        self.put(record, &data);
         Ok(())
     }
 
@@ -95,21 +95,21 @@ impl Writer {
     }
 
     /// The record of an operation, and ahead of it those that gather what it has no place for.
-    fn put(&mut self, operation: Operation, data: &[u8]) {
+    fn put(&mut self, record: Record, data: &[u8]) {
+        let time = self.time;
         let whole = data.len().saturating_sub(1) / MOST_DATA * MOST_DATA;
-        let (gathered, own) = data.split_at(whole);
+        let (gathered, data) = data.split_at(whole);
         for part in gathered.chunks(MOST_DATA) {
-            self.put_one(Operation::Gather, part);
+            let gather = Record::new(Operation::Gather, 0, time, part);
+            self.trace.extend(gather.bytes());
         }
-        self.put_one(operation, own);
-    }
-
-    fn put_one(&mut self, operation: Operation, data: &[u8]) {
-        let record = Record {
-            operation,
-            time: self.time,
-            data: data.to_vec(),
-        };
-        self.trace.extend(record::bytes_of(&record));
+        self.trace.extend(
+            Record {
+                time,
+                data,
+                ..record
+            }
+            .bytes(),
+        );
     }
 }

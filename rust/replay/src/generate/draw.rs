@@ -3,8 +3,8 @@
 
 use crate::client::MOST_BYTES;
 use crate::dcf::{COUNT_BYTES, ENTRY_HEAD, SENT_HEAD};
-use crate::record::MOST_DATA;
 use oracle::ObjectDictionary;
+use record::MOST_DATA;
 use rng::Rng;
 
 /// Totals at which the parts change, and the longest job.

@@ -8,8 +8,8 @@ mod steps;
 
 use crate::counts::Counts;
 use crate::parameters;
-use crate::record::MOST_RECORDS;
 use oracle::ObjectDictionary;
+use record::MOST_RECORDS;
 use rng::Rng;
 use stage::Stage;
 use steps::Theme;

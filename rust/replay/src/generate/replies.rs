@@ -3,8 +3,8 @@
 use super::draw;
 use super::stage::{Reply, Stage, COMPLETE, EXPEDITED, INITIALIZATION, INITIATE, SEGMENT, VALID};
 use super::steps::Theme;
-use crate::record::{ABORT, RESPONSE};
 use crate::table::{Held, State};
+use record::{ABORT, RESPONSE};
 
 /// How many connections that no call can move a trace may come to hold.
 const MOST_STUCK: usize = 2;

@@ -5,11 +5,11 @@ use super::Run;
 use crate::client::MOST_BYTES;
 use crate::observe::Observer;
 use crate::parameters;
-use crate::record::{Operation, Record, RecordBytes, MOST_DATA, MOST_RECORDS, RESPONSE};
 use crate::rules::Rule;
 use crate::table::{Held, State, Table};
 use crate::watched::Watched;
 use oracle::ObjectDictionary;
+use record::{Operation, Record, RecordBytes, LENGTH, MOST_DATA, MOST_RECORDS, RESPONSE};
 use rng::Rng;
 
 /// The states of the sequence header, by their numbers.
@@ -101,34 +101,18 @@ impl Stage {
     fn record(&mut self, record: Record) {
         let mut bytes = record.bytes();
         if self.loose {
-            self.fill_unused(record.operation, &mut bytes);
+            self.fill_unused(&record, &mut bytes);
         }
         self.push(bytes);
     }
 
     /// Draws the bytes that the operation does not use, its length too where it takes no data.
-    fn fill_unused(&mut self, operation: Operation, bytes: &mut RecordBytes) {
-        let takes_data = !matches!(
-            operation,
-            Operation::Read | Operation::Tick | Operation::Ask
-        );
-        let past = MOST_DATA + usize::from(bytes[5]);
-        if !takes_data {
-            bytes[5] = self.rng.below(MOST_DATA + 1) as u8;
+    fn fill_unused(&mut self, record: &Record, bytes: &mut RecordBytes) {
+        if !record.operation.takes_data() {
+            bytes[LENGTH] = self.rng.below(MOST_DATA + 1) as u8;
         }
-        // From a place up to another.
-        let unused: &[(usize, usize)] = match operation {
-            Operation::Write | Operation::Read => &[(14, 15)],
-            Operation::Dcf => &[(2, 5), (14, 15)],
-            Operation::Reply => &[(4, 5), (6, 14)],
-            Operation::Tick | Operation::Ask => &[(1, 5), (14, 15)],
-            Operation::Gather => &[(1, 5), (6, 15)],
-        };
-        let always = [(15, 16), (past, bytes.len())];
-        for (from, to) in unused.iter().copied().chain(always) {
-            for byte in &mut bytes[from..to] {
-                *byte = self.rng.byte();
-            }
+        for place in record.unused() {
+            bytes[place] = self.rng.byte();
         }
     }
 

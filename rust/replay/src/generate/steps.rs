@@ -4,7 +4,7 @@
 use super::draw;
 use super::replies;
 use super::stage::Stage;
-use crate::record::RECORD_BYTES;
+use record::{LENGTH, OPERATION, RECORD_BYTES};
 
 /// What the steps of a trace are mostly about.
 #[derive(Debug, Clone, Copy, PartialEq, Eq)]
@@ -193,23 +193,23 @@ fn noise(stage: &mut Stage) {
         }
     }
     match stage.rng.below(6) {
-        0 => bytes[0] = 0,
-        1 => bytes[0] = 8,
+        0 => bytes[OPERATION] = 0,
+        1 => bytes[OPERATION] = 8,
         2 => {
-            bytes[0] = 1 + stage.rng.below(7) as u8;
-            bytes[5] = stage.rng.pick(&[17, 18, 128, 255]);
+            bytes[OPERATION] = 1 + stage.rng.below(7) as u8;
+            bytes[LENGTH] = stage.rng.pick(&[17, 18, 128, 255]);
         }
         3 => {
             // Whatever its fields, it is a record.
-            bytes[0] = 1 + stage.rng.below(7) as u8;
-            bytes[5] %= 17;
+            bytes[OPERATION] = 1 + stage.rng.below(7) as u8;
+            bytes[LENGTH] %= 17;
         }
         4 => {
             let length = stage.rng.below(40);
             let gathered = stage.rng.bytes(length);
             return stage.gather(&gathered);
         }
-        _ => bytes[0] = stage.rng.byte(),
+        _ => bytes[OPERATION] = stage.rng.byte(),
     }
     stage.push(bytes);
 }

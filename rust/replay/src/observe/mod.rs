@@ -9,12 +9,12 @@ use crate::client::{Answer, Call, MOST_BYTES, MOST_HELD};
 use crate::counts::Counts;
 use crate::gather::Turn;
 use crate::parameters;
-use crate::record::{Operation, Record, RecordBytes, MOST_DATA};
 use crate::refusal::Refusal;
 use crate::rules::Rule;
 use crate::table::{State, Table};
 use crate::watched::Step;
 use oracle::ObjectDictionary;
+use record::{Operation, Record, RecordBytes, DATA, OPERATION, SPARE};
 use replay_line::{End, Reason};
 
 /// The low four flag bits, which have no meaning.
@@ -91,7 +91,7 @@ impl Observer {
     }
 
     fn bad(&mut self, bytes: &RecordBytes, gathered: usize) {
-        self.reach(match bytes[0] {
+        self.reach(match bytes[OPERATION] {
             0 => Rule::BadZero,
             1..=7 => Rule::BadLength,
             8.. => Rule::BadHigh,
@@ -128,10 +128,10 @@ impl Observer {
                 self.reach(Rule::GatherRefused);
             }
         }
-        if step.bytes[15] != 0 {
+        if step.bytes[SPARE] != 0 {
             self.reach(Rule::Byte15);
         }
-        let past = &step.bytes[MOST_DATA + record.data.len()..];
+        let past = &step.bytes[DATA + record.data.len()..];
         if past.iter().any(|byte| *byte != 0) {
             self.reach(Rule::PastLength);
         }

@@ -1,4 +1,4 @@
--- `codec::command::command_at` meets its contract: each return is one case of `commandAt`. Assumes nothing.
+-- `codec::command::command_at` meets its contract: each return is one case of `commandAt`.
 use Rattle.laws.proofs.Picks.{below, not-below}
 use Rattle.codec.specs.Command.{commandAt}
 use borrow.Author.Needs.{needs}

@@ -1,4 +1,4 @@
--- `codec::command::command_of` meets its contract: each arm is the command at that place of the table. Assumes nothing.
+-- `codec::command::command_of` meets its contract: each arm is the command at that place of the table.
 use Rattle.laws.proofs.Numbers.{at-least}
 use Rattle.codec.specs.Command.{commands}
 use Rattle.codec.proofs.Commands.{decoded, outside}

@@ -1,4 +1,4 @@
--- `codec::command::data_size_at` meets its contract: an Initiate has the twelve bytes that its data size stands in. Assumes nothing.
+-- `codec::command::data_size_at` meets its contract: an Initiate has the twelve bytes that its data size stands in.
 use mathlib.Core.Path.{ap}
 use native.Mathlib.Omega.{arith}
 use Rattle.codec.specs.declared.command.DataSize.{DataSize}

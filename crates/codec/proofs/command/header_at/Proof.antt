@@ -1,4 +1,4 @@
--- `codec::command::header_at` meets its contract: the record's fields are those of `headerAt`. Assumes nothing.
+-- `codec::command::header_at` meets its contract: the record's fields are those of `headerAt`.
 use borrow.Author.Needs.{needs}
 use Rattle.codec.proofs.command.header_at.Statement.{statement}
 use Rattle.codec.proofs.command.header_at.Tie as tie

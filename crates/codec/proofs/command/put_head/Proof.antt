@@ -1,6 +1,6 @@
--- `codec::command::put_head` meets its contract: the fixed eight bytes, and behind them an Initiate's data size. Assumes nothing.
+-- `codec::command::put_head` meets its contract: the fixed eight bytes, and behind them an Initiate's data size.
 use native.Mathlib.Omega.{arith}
-use Rattle.codec.proofs.Writing.{fixed-fits, size-fits, head-alone, head-sized}
+use Rattle.codec.proofs.WrittenBytes.{fixed-fits, size-fits, head-alone, head-sized}
 use borrow.Author.Needs.{needs}
 use Rattle.codec.proofs.command.put_head.Statement.{statement}
 use Rattle.codec.proofs.command.put_head.Tie as tie

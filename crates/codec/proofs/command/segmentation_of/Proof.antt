@@ -1,4 +1,4 @@
--- `codec::command::segmentation_of` meets its contract: each arm is one of the four. Assumes nothing.
+-- `codec::command::segmentation_of` meets its contract: each arm is one of the four.
 use Rattle.laws.proofs.Picks.{among-0, among-1, among-2, among-3}
 use Rattle.codec.proofs.command.segmentation_of.Statement.{statement}
 use Rattle.codec.proofs.command.segmentation_of.Tie as tie

@@ -1,4 +1,4 @@
--- `codec::dcf::dcf_count` meets its contract: each return is one case of `dcfCount`. Assumes nothing.
+-- `codec::dcf::dcf_count` meets its contract: each return is one case of `dcfCount`.
 use Rattle.laws.proofs.Picks.{below, not-below}
 use Rattle.codec.specs.Dcf.{dcfCount}
 use borrow.Author.Needs.{needs}

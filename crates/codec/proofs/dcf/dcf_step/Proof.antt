@@ -1,6 +1,6 @@
--- `codec::dcf::dcf_step` meets its contract: each return is one case of `dcfStep`. Assumes nothing.
+-- `codec::dcf::dcf_step` meets its contract: each return is one case of `dcfStep`.
 use native.Mathlib.Omega.{arith}
-use Rattle.codec.proofs.Reading.{dcf-end, dcf-no-head, dcf-no-data, dcf-entry}
+use Rattle.codec.proofs.ReadCases.{dcf-end, dcf-no-head, dcf-no-data, dcf-entry}
 use borrow.Author.Needs.{needs}
 use Rattle.codec.proofs.dcf.dcf_step.Statement.{statement}
 use Rattle.codec.proofs.dcf.dcf_step.Tie as tie

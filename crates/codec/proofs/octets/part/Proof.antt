@@ -1,6 +1,6 @@
--- `codec::octets::part` meets its contract: each return is one case of `partAt`. Assumes nothing.
+-- `codec::octets::part` meets its contract: each return is one case of `partAt`.
 use native.Mathlib.Omega.{arith}
-use Rattle.codec.proofs.Reading.{part-outside, part-inside}
+use Rattle.codec.proofs.ReadCases.{part-outside, part-inside}
 use borrow.Author.Needs.{needs}
 use Rattle.codec.proofs.octets.part.Statement.{statement}
 use Rattle.codec.proofs.octets.part.Tie as tie

@@ -1,6 +1,6 @@
--- `codec::octets::put` meets its contract: refused before a byte is put, or put whole. Assumes nothing.
+-- `codec::octets::put` meets its contract: refused before a byte is put, or put whole.
 use native.Mathlib.Omega.{arith}
-use Rattle.codec.proofs.Writing.{put-refused, put-done}
+use Rattle.codec.proofs.WrittenBytes.{put-refused, put-done}
 use borrow.Author.Needs.{needs}
 use Rattle.codec.proofs.octets.put.Statement.{statement}
 use Rattle.codec.proofs.octets.put.Tie as tie

@@ -1,5 +1,4 @@
 -- `codec::octets::put_bytes` meets its contract: what the kit's copy leaves in the part is put back into the whole.
--- Assumes nothing.
 use Prim.Native.Nat.{_-_}
 use lib.ListN.{length}
 use native.Mathlib.Omega.{arith}

@@ -1,4 +1,4 @@
--- `codec::request::abort_code` meets its contract: each return is one case of `abortCode`. Assumes nothing.
+-- `codec::request::abort_code` meets its contract: each return is one case of `abortCode`.
 use Rattle.laws.proofs.Picks.{below, not-below}
 use borrow.Author.Needs.{needs}
 use Rattle.codec.proofs.request.abort_code.Statement.{statement}

@@ -1,4 +1,4 @@
--- `codec::request::multiple_param_entry` meets its contract: each return is one case of `multipleParamEntry`. Assumes nothing.
+-- `codec::request::multiple_param_entry` meets its contract: each return is one case of `multipleParamEntry`.
 use Rattle.laws.proofs.Picks.{is, is-not, below, not-below}
 use borrow.Author.Needs.{needs}
 use Rattle.codec.proofs.request.multiple_param_entry.Statement.{statement}

@@ -1,4 +1,4 @@
--- `codec::request::read_multiple_param` meets its contract: each return is one case of `readMultipleParam`. Assumes nothing.
+-- `codec::request::read_multiple_param` meets its contract: each return is one case of `readMultipleParam`.
 use Rattle.laws.proofs.Picks.{is, is-not}
 use borrow.Author.Needs.{needs}
 use Rattle.codec.proofs.request.read_multiple_param.Statement.{statement}

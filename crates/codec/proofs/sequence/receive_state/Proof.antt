@@ -1,4 +1,4 @@
--- `codec::sequence::receive_state` meets its contract: each arm is one of the four. Assumes nothing.
+-- `codec::sequence::receive_state` meets its contract: each arm is one of the four.
 use Rattle.laws.proofs.Picks.{among-0, among-1, among-2, among-3}
 use Rattle.codec.proofs.sequence.receive_state.Statement.{statement}
 use Rattle.codec.proofs.sequence.receive_state.Tie as tie

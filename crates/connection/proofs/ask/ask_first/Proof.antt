@@ -1,4 +1,4 @@
--- `connection::ask::ask_first` meets its contract: each arm is one case of its definition. Assumes nothing.
+-- `connection::ask::ask_first` meets its contract: each arm is one case of its definition.
 use mathlib.Core.Path.{refl}
 use mathlib.Core.Path.{_∙_}
 use Rattle.connection.specs.Ask.{askFirst}

@@ -1,45 +1,14 @@
--- `connection::ask::ask_in` meets its contract: each arm is one case of its definition. Assumes nothing.
-use mathlib.Core.Path.{refl}
+-- `connection::ask::ask_in` meets its contract: each arm is one case of its definition.
+use mathlib.Core.Path.{_≡_, refl}
 use Rattle.connection.specs.Ask.{askIn}
+use Rattle.connection.specs.Types.{Now, SdoClientConnection, SdoClientConnectionState, Stepped}
 use Rattle.laws.proofs.Answers.{told}
 use borrow.Author.Needs.{needs}
 use Rattle.connection.proofs.ask.ask_in.Statement.{statement}
 use Rattle.connection.proofs.ask.ask_in.Tie as tie
 
-returns : tie.Need-returns
-returns c =
-    let a = c .before .before .before .before .args in
-    told (λ x. askIn x (a .c) (a .n)) refl (c .before .enum-told .given .1) (c .quiet .ensures)
-
-returns-2 : tie.Need-returns-2
-returns-2 c =
-    let a = c .before .before .before .before .args in
-    told (λ x. askIn x (a .c) (a .n)) refl (c .before .enum-told2 .given .1) (c .given .ensures)
-
-returns-3 : tie.Need-returns-3
-returns-3 c =
-    let a = c .before .before .before .before .args in
-    told (λ x. askIn x (a .c) (a .n)) refl (c .before .enum-told3 .given .1) (c .ask-first .ensures)
-
-returns-4 : tie.Need-returns-4
-returns-4 c =
-    let a = c .before .before .before .before .args in
-    told (λ x. askIn x (a .c) (a .n)) refl (c .before .enum-told4 .given .1) (c .quiet2 .ensures)
-
-returns-5 : tie.Need-returns-5
-returns-5 c =
-    let a = c .before .before .before .before .args in
-    told (λ x. askIn x (a .c) (a .n)) refl (c .before .enum-told5 .given .1) (c .given2 .ensures)
-
-returns-6 : tie.Need-returns-6
-returns-6 c =
-    let a = c .before .before .before .before .args in
-    told (λ x. askIn x (a .c) (a .n)) refl (c .before .enum-told6 .given .1) (c .ask-later .ensures)
-
-returns-7 : tie.Need-returns-7
-returns-7 c =
-    let a = c .before .before .before .before .args in
-    told (λ x. askIn x (a .c) (a .n)) refl (c .before .enum-told7 .given .1) (c .quiet3 .ensures)
+arm : (c : SdoClientConnection) (n : Now) {s found : SdoClientConnectionState} {r : Stepped} → s ≡ found → r ≡ askIn found c n → r ≡ askIn s c n
+arm c n = told (λ x. askIn x c n) refl
 
 pub ask-in-spec : {M : Type 1} → statement M
 ask-in-spec =
@@ -47,22 +16,22 @@ ask-in-spec =
     (tie.spec
     (λ c. search needs)
     (λ c κs. search needs)
-    returns
+    (λ c. arm _ _ (c .before .enum-told .given .1) (c .quiet .ensures))
     (λ c. search needs)
     (λ c κs. search needs)
-    returns-2
+    (λ c. arm _ _ (c .before .enum-told2 .given .1) (c .given .ensures))
     (λ c. search needs)
     (λ c κs. search needs)
-    returns-3
+    (λ c. arm _ _ (c .before .enum-told3 .given .1) (c .ask-first .ensures))
     (λ c. search needs)
     (λ c κs. search needs)
-    returns-4
+    (λ c. arm _ _ (c .before .enum-told4 .given .1) (c .quiet2 .ensures))
     (λ c. search needs)
     (λ c κs. search needs)
-    returns-5
+    (λ c. arm _ _ (c .before .enum-told5 .given .1) (c .given2 .ensures))
     (λ c. search needs)
     (λ c κs. search needs)
-    returns-6
+    (λ c. arm _ _ (c .before .enum-told6 .given .1) (c .ask-later .ensures))
     (λ c. search needs)
     (λ c κs. search needs)
-    returns-7)
+    (λ c. arm _ _ (c .before .enum-told7 .given .1) (c .quiet3 .ensures)))

@@ -1,4 +1,4 @@
--- `connection::ask::finish` meets its contract: each return is one case of its definition. Assumes nothing.
+-- `connection::ask::finish` meets its contract: each return is one case of its definition.
 use Rattle.laws.proofs.Picks.{is, is-not}
 use borrow.Author.Needs.{needs}
 use Rattle.connection.proofs.ask.finish.Statement.{statement}

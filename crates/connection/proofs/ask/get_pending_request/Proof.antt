@@ -1,4 +1,4 @@
--- `connection::ask::get_pending_request` meets its contract: each arm is one case of its definition. Assumes nothing.
+-- `connection::ask::get_pending_request` meets its contract: each arm is one case of its definition.
 use mathlib.Core.Path.{refl}
 use Rattle.connection.specs.Ask.{askFree, askOf}
 use Rattle.laws.proofs.Answers.{told}

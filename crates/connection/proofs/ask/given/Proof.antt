@@ -1,4 +1,4 @@
--- `connection::ask::given` meets its contract: a deadline that fits, and one that does not. Assumes nothing.
+-- `connection::ask::given` meets its contract: a deadline that fits, and one that does not.
 use mathlib.Core.Path.{refl}
 use Rattle.connection.proofs.AskCases.{given-by}
 use borrow.Author.Needs.{needs}

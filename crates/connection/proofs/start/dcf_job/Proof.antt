@@ -1,5 +1,6 @@
--- `connection::start::dcf_job` meets its contract: each arm is one case of its definition. Assumes nothing.
-use mathlib.Core.Path.{refl}
+-- `connection::start::dcf_job` meets its contract: without an entry nothing is loaded, and else the entry is.
+use mathlib.Core.Path.{_≡_, refl}
+use Rattle.codec.proofs.Steps.{no-entry}
 use Rattle.connection.specs.Start.{dcfJob}
 use Rattle.laws.proofs.Answers.{told}
 use borrow.Author.Needs.{needs}
@@ -8,18 +9,14 @@ use Rattle.connection.proofs.start.dcf_job.Tie as tie
 
 returns : tie.Need-returns
 returns c =
-    let a = c .before .before .before .before .args in
-    told (λ x. dcfJob x (a .size) (a .first)) refl (c .before .before .d .given .1) (c .job-with .ensures)
+    let a = c .before .before .args in
+    no-entry (λ x. c .job-with .result ≡ dcfJob x (a .size) (a .first)) (a .d) (c .before .match .keys2)
+    (c .job-with .ensures) (c .job-with .ensures)
 
 returns-2 : tie.Need-returns-2
 returns-2 c =
-    let a = c .before .before .before .args in
-    told (λ x. dcfJob x (a .size) (a .first)) refl (c .before .enum-told .given .1) (c .job-with2 .ensures)
-
-returns-3 : tie.Need-returns-3
-returns-3 c =
-    let a = c .before .before .before .args in
-    told (λ x. dcfJob x (a .size) (a .first)) refl (c .before .enum-told2 .given .1) (c .job-with3 .ensures)
+    let a = c .before .before .before .before .args in
+    told (λ x. dcfJob x (a .size) (a .first)) refl (c .before .before .d .given .1) (c .job-with2 .ensures)
 
 pub dcf-job-spec : {M : Type 1} → statement M
 dcf-job-spec =
@@ -27,10 +24,6 @@ dcf-job-spec =
     (tie.spec
     (λ c. search needs)
     (λ c κs. search needs)
-    (λ c. search needs)
-    (λ c κs. search needs)
-    (λ c. search needs)
-    (λ c κs. search needs)
     returns
-    returns-2
-    returns-3)
+    (λ c κs. search needs)
+    returns-2)

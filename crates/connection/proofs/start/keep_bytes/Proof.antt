@@ -1,4 +1,4 @@
--- `connection::start::keep_bytes` meets its contract: a start puts the bytes, a refused one does not. Assumes nothing.
+-- `connection::start::keep_bytes` meets its contract: a start puts the bytes, a refused one does not.
 use native.Mathlib.Omega.{arith}
 use mathlib.Core.Path.{refl}
 use Rattle.laws.proofs.Answers.{told}
@@ -8,8 +8,8 @@ use borrow.Author.Needs.{needs}
 use Rattle.connection.proofs.start.keep_bytes.Statement.{statement}
 use Rattle.connection.proofs.start.keep_bytes.Tie as tie
 
-returns : tie.Need-returns
-returns c =
+returns-2 : tie.Need-returns-2
+returns-2 c =
     let a = c .before .before .before .before .before .before .before .before .args in
     told (λ x. roomWith x (a .bytes .now) (a .room .now)) refl (c .before .before .before .before .enum-told .given .1)
     (put-whole (a .bytes .now) (a .room .now) _ (omega arith) (c .before .before .put .ensures .1))
@@ -19,8 +19,8 @@ keep-bytes-spec =
     tie.close
     (tie.spec
     (λ c. search needs)
+    (λ c. search needs)
+    (λ c. search needs)
     (λ c κs. search needs)
     (λ c. search needs)
-    returns
-    (λ c. search needs)
-    (λ c. search needs))
+    returns-2)

@@ -1,4 +1,4 @@
--- `connection::start::start_concise_dcf_job` meets its contract: each refusal leaves the room, and a start puts the DCF. Assumes nothing.
+-- `connection::start::start_concise_dcf_job` meets its contract: each refusal leaves the room, and a start puts the DCF.
 use native.Mathlib.Omega.{arith}
 use mathlib.Core.Path.{subst, sym, _∙_}
 use Rattle.codec.proofs.Entries.{Counted, counted}

@@ -1,4 +1,4 @@
--- `connection::start::start_read_job` meets its contract: started where it is idle. Assumes nothing.
+-- `connection::start::start_read_job` meets its contract: started where it is idle.
 use mathlib.Core.Path.{refl, _∙_}
 use Rattle.laws.proofs.Picks.{fails, holds}
 use Rattle.connection.specs.Start.{startRead}

@@ -1,4 +1,4 @@
--- `connection::start::start_write_job` meets its contract: each refusal leaves the room, and a start puts the bytes. Assumes nothing.
+-- `connection::start::start_write_job` meets its contract: each refusal leaves the room, and a start puts the bytes.
 use native.Mathlib.Omega.{arith}
 use mathlib.Core.Path.{_∙_}
 use Rattle.connection.proofs.StartCases.{answered, write-busy, write-no-room, write-starts}

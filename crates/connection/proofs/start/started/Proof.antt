@@ -1,4 +1,4 @@
--- `connection::start::started` meets its contract: a deadline that fits, and one that does not. Assumes nothing.
+-- `connection::start::started` meets its contract: a deadline that fits, and one that does not.
 use mathlib.Core.Path.{refl}
 use Rattle.connection.specs.Start.{started, startedAt}
 use Rattle.laws.proofs.Answers.{told}

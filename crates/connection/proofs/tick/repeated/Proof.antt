@@ -1,4 +1,4 @@
--- `connection::tick::repeated` meets its contract: each arm is one case of its definition. Assumes nothing.
+-- `connection::tick::repeated` meets its contract: each arm is one case of its definition.
 use mathlib.Core.Path.{refl}
 use Rattle.connection.specs.Tick.{repeated}
 use Rattle.laws.proofs.Answers.{told}

@@ -1,4 +1,4 @@
--- `connection::tick::retried` meets its contract: each arm is one case of its definition. Assumes nothing.
+-- `connection::tick::retried` meets its contract: a deadline that fits, and one that does not.
 use mathlib.Core.Path.{refl}
 use Rattle.connection.specs.Tick.{retriedAt}
 use Rattle.laws.proofs.Answers.{told}
@@ -8,13 +8,13 @@ use Rattle.connection.proofs.tick.retried.Tie as tie
 
 returns : tie.Need-returns
 returns c =
-    let a = c .before .before .before .before .before .before .before .args in
-    told (λ x. retriedAt x (a .c)) refl (c .before .before .before .before .m .given .1) (rw (c .repeated .ensures))
+    let a = c .before .before .args in
+    told (λ x. retriedAt x (a .c)) refl (c .enum-told .given .1) refl
 
 returns-2 : tie.Need-returns-2
 returns-2 c =
-    let a = c .before .before .before .args in
-    told (λ x. retriedAt x (a .c)) refl (c .enum-told .given .1) refl
+    let a = c .before .before .before .before .before .before .before .args in
+    told (λ x. retriedAt x (a .c)) refl (c .before .before .before .before .before .m .given .1) (rw (c .repeated .ensures))
 
 pub retried-spec : {M : Type 1} → statement M
 retried-spec =
@@ -22,7 +22,7 @@ retried-spec =
     (tie.spec
     (λ c. search needs)
     (λ c. search needs)
-    (λ c κs. search needs)
     returns
     (λ c. search needs)
+    (λ c κs. search needs)
     returns-2)

@@ -1,4 +1,4 @@
--- `connection::tick::tick` meets its contract: the deadline decides. Assumes nothing.
+-- `connection::tick::tick` meets its contract: the deadline decides.
 use Rattle.connection.specs.Tick.{tickOf}
 use borrow.Author.Needs.{needs}
 use Rattle.connection.proofs.tick.tick.Statement.{statement}

@@ -1,4 +1,4 @@
--- `connection::tick::timed_out` meets its contract: its parts are what the callees make. Assumes nothing.
+-- `connection::tick::timed_out` meets its contract: its parts are what the callees make.
 use borrow.Author.Needs.{needs}
 use Rattle.connection.proofs.tick.timed_out.Statement.{statement}
 use Rattle.connection.proofs.tick.timed_out.Tie as tie

@@ -1,6 +1,6 @@
--- `host::loan::load` meets its contract. The manager is copied into a local, which is lent to `lent::start_configuration_download` for a
+-- `host::loan::load` meets its contract. The manager is copied into a local, which is lent to `man_lent::start_configuration_download` for a
 -- lifetime made for that call and comes back at the last value that the call says; it and what the call tells are the answer. The slices
--- go on to the call. Of the function called the proof knows its contract alone. Assumes nothing.
+-- go on to the call. Of the function called the proof knows its contract alone.
 use mathlib.Core.Path.{_≡_, refl, ap}
 use Prim.Native.Nat.{ℕ, _<_, _^_}
 use mathlib.Core.List.{[], _∷_, List}
@@ -42,25 +42,25 @@ use denote.Triple.Spec.{Meets, tripleOf}
 use denote.Triple.Table.{entered, cited}
 use denote.Triple.Walked.{says, Stays, stay-none, stay-none-slice, gave-slice, walkOf, goes-none, goes-none-slice, goes-gave-slice, Walks, ends-at, walked, walk-meets}
 use denote.Exit.{yes}
-use Rattle.manager.specs.Calls.{loads, startDone, startStore}
-use Rattle.lent.specs.Lent.{toldOf}
-use Rattle.table.specs.declared.types.SdoClientManager.{SdoClientManager}
-use Rattle.lent.specs.declared.types.Told.{Told}
-use Rattle.sdo.specs.declared.Now.{Now}
-use Rattle.table.proofs.types.SdoClientManager as T
-use Rattle.table.proofs.types.SdoClientManager.Laws as T′
-use Rattle.lent.proofs.types.Kept as N
-use Rattle.lent.proofs.types.Kept.Laws as N′
-use Rattle.lent.proofs.types.Told as Told-p
-use Rattle.lent.proofs.types.Told.Laws as Told-l
-use Rattle.sdo.proofs.Now as Now-p
-use Rattle.sdo.proofs.Now.Laws as Now-l
-use Rattle.lent.proofs.Keeping.{mach}
-use Rattle.host.proofs.Lending.{cell-in, cell-out, mach-kept, made, made-is, told-value}
-use Rattle.lent.proofs.start_configuration_download as g
-use Rattle.lent.proofs.start_configuration_download.Symbol as g-def
-use Rattle.lent.proofs.start_configuration_download.Symbol.{name as #lent·start-configuration-download}
-use Rattle.lent.proofs.start_configuration_download.Met as g-thm
+use Rattle.manager.specs.Calls.{called, starts, loads}
+use Rattle.man_lent.specs.Lent.{toldOf}
+use Rattle.man_table.specs.declared.types.SdoClientManager.{SdoClientManager}
+use Rattle.man_lent.specs.declared.types.Told.{Told}
+use Rattle.con_rec.specs.declared.Now.{Now}
+use Rattle.man_table.proofs.types.SdoClientManager as T
+use Rattle.man_table.proofs.types.SdoClientManager.Laws as T′
+use Rattle.man_lent.proofs.types.Kept as N
+use Rattle.man_lent.proofs.types.Kept.Laws as N′
+use Rattle.man_lent.proofs.types.Told as Told-p
+use Rattle.man_lent.proofs.types.Told.Laws as Told-l
+use Rattle.con_rec.proofs.Now as Now-p
+use Rattle.con_rec.proofs.Now.Laws as Now-l
+use Rattle.man_lent.proofs.KeptLayout.{mach}
+use Rattle.host.proofs.LentLocal.{cell-in, cell-out, mach-kept, made, made-is, told-value}
+use Rattle.man_lent.proofs.start_configuration_download as g
+use Rattle.man_lent.proofs.start_configuration_download.Symbol as g-def
+use Rattle.man_lent.proofs.start_configuration_download.Symbol.{name as #lent·start-configuration-download}
+use Rattle.man_lent.proofs.start_configuration_download.Met as g-thm
 use Rattle.host.proofs.loan.load.Key.{name as #host·load}
 use Rattle.host.proofs.loan.load as f
 use Rattle.host.proofs.loan.load.Statement as stated
@@ -71,7 +71,7 @@ stayed = (stay-none (λ _. T.the-row) yes, (stay-none (λ _. u8) yes, (stay-none
 
 -- what the call says of what it tells and of the last values
 abbrev Says : SdoClientManager → ℕ → RefT (List ℕ) → Now → RefT (List ℕ) → Told → SdoClientManager → List ℕ → Type 0
-Says h v-target v-dcf v-when v-store r z z-store = ((r ≡ toldOf (startDone h v-target (loads (v-dcf .now)) v-when (v-store .now))) × (z ≡ startDone h v-target (loads (v-dcf .now)) v-when (v-store .now) .manager)) × (z-store ≡ startStore h v-target (loads (v-dcf .now)) v-when (v-store .now))
+Says h v-target v-dcf v-when v-store r z z-store = ((r ≡ toldOf (called h (v-store .now) [] (starts v-target (loads (v-dcf .now)) v-when) .done)) × (z ≡ called h (v-store .now) [] (starts v-target (loads (v-dcf .now)) v-when) .done .manager)) × (z-store ≡ called h (v-store .now) [] (starts v-target (loads (v-dcf .now)) v-when) .store)
 
 module _ {M : Type 1} (𝓤 : URA M) (H : Heap 𝓤) (A : Atoms 𝓤) (at-mem : Memory → SProp 𝓤) (run : Routine → Fun 𝓤) where
   -- the contract that the proof cites
@@ -160,4 +160,4 @@ load-spec 𝓤 H 𝓜 𝓖 𝓡 =
     entered 𝓤 H (tripleOf 𝓤 H (𝓖 .A) f.signature (f.spec 𝓤 H (𝓖 .A) (𝓜 .mem) (𝓡 .run)))
     (tables 𝓤 H 𝓜 𝓡 code.env .C) (tables 𝓤 H 𝓜 𝓡 code.env .Λ) #host·load code.function (code.unfolded 𝓤 H 𝓜 𝓡)
     (f-meets 𝓤 H (𝓖 .A) (givenOf 𝓤 H 𝓜 𝓖) (𝓜 .mem) (𝓡 .run) (tablesOf 𝓤 H 𝓜 (tables 𝓤 H 𝓜 𝓡 code.env))
-    (cited 𝓤 H (G 𝓤 H (𝓖 .A) (𝓜 .mem) (𝓡 .run)) 𝓜 𝓡 code.env #lent·start-configuration-download g-def.routine code.calls-lent·start-configuration-download (g-thm.met 𝓤 H 𝓜 𝓖 𝓡)))
+    (cited 𝓤 H (G 𝓤 H (𝓖 .A) (𝓜 .mem) (𝓡 .run)) 𝓜 𝓡 code.env #lent·start-configuration-download g-def.routine code.calls-man-lent·start-configuration-download (g-thm.met 𝓤 H 𝓜 𝓖 𝓡)))

@@ -1,5 +1,5 @@
--- `host::loan::next` meets its contract. The manager is copied into a local, which is lent to `lent::next_action_time` for a lifetime
--- made for that call and comes back as it was. Of the function called the proof knows its contract alone. Assumes nothing.
+-- `host::loan::next` meets its contract. The manager is copied into a local, which is lent to `man_lent::next_action_time` for a lifetime
+-- made for that call and comes back as it was. Of the function called the proof knows its contract alone.
 use mathlib.Core.Path.{_≡_, refl}
 use Prim.Native.Nat.{ℕ}
 use mathlib.Core.List.{[], _∷_}
@@ -36,19 +36,19 @@ use denote.Triple.Table.{entered, cited}
 use denote.Triple.Walked.{says, Stays, stay-none, walkOf, goes-none, Walks, ends-at, walked, walk-meets}
 use denote.Exit.{yes}
 use Rattle.manager.specs.Calls.{leastDeadline}
-use Rattle.table.specs.Table.{live}
-use Rattle.sdo.specs.declared.Deadline.{Deadline}
-use Rattle.sdo.proofs.Deadline as Deadline-p
-use Rattle.sdo.proofs.Deadline.Laws as Deadline-l
-use Rattle.table.specs.declared.types.SdoClientManager.{SdoClientManager}
-use Rattle.table.proofs.types.SdoClientManager as T
-use Rattle.table.proofs.types.SdoClientManager.Laws as T′
-use Rattle.lent.proofs.Keeping.{mach}
-use Rattle.host.proofs.Lending.{cell-in, cell-out}
-use Rattle.lent.proofs.next_action_time as g
-use Rattle.lent.proofs.next_action_time.Symbol as g-def
-use Rattle.lent.proofs.next_action_time.Symbol.{name as #lent·next-action-time}
-use Rattle.lent.proofs.next_action_time.Met as g-thm
+use Rattle.man_table.specs.Table.{live}
+use Rattle.con_rec.specs.declared.Deadline.{Deadline}
+use Rattle.con_rec.proofs.Deadline as Deadline-p
+use Rattle.con_rec.proofs.Deadline.Laws as Deadline-l
+use Rattle.man_table.specs.declared.types.SdoClientManager.{SdoClientManager}
+use Rattle.man_table.proofs.types.SdoClientManager as T
+use Rattle.man_table.proofs.types.SdoClientManager.Laws as T′
+use Rattle.man_lent.proofs.KeptLayout.{mach}
+use Rattle.host.proofs.LentLocal.{cell-in, cell-out}
+use Rattle.man_lent.proofs.next_action_time as g
+use Rattle.man_lent.proofs.next_action_time.Symbol as g-def
+use Rattle.man_lent.proofs.next_action_time.Symbol.{name as #lent·next-action-time}
+use Rattle.man_lent.proofs.next_action_time.Met as g-thm
 use Rattle.host.proofs.loan.next.Key.{name as #host·next}
 use Rattle.host.proofs.loan.next as f
 use Rattle.host.proofs.loan.next.Statement as stated
@@ -128,4 +128,4 @@ next-spec 𝓤 H 𝓜 𝓖 𝓡 =
     entered 𝓤 H (tripleOf 𝓤 H (𝓖 .A) f.signature (f.spec 𝓤 H (𝓖 .A) (𝓜 .mem) (𝓡 .run)))
     (tables 𝓤 H 𝓜 𝓡 code.env .C) (tables 𝓤 H 𝓜 𝓡 code.env .Λ) #host·next code.function (code.unfolded 𝓤 H 𝓜 𝓡)
     (f-meets 𝓤 H (𝓖 .A) (givenOf 𝓤 H 𝓜 𝓖) (𝓜 .mem) (𝓡 .run) (tablesOf 𝓤 H 𝓜 (tables 𝓤 H 𝓜 𝓡 code.env))
-    (cited 𝓤 H (G 𝓤 H (𝓖 .A) (𝓜 .mem) (𝓡 .run)) 𝓜 𝓡 code.env #lent·next-action-time g-def.routine code.calls-lent·next-action-time (g-thm.met 𝓤 H 𝓜 𝓖 𝓡)))
+    (cited 𝓤 H (G 𝓤 H (𝓖 .A) (𝓜 .mem) (𝓡 .run)) 𝓜 𝓡 code.env #lent·next-action-time g-def.routine code.calls-man-lent·next-action-time (g-thm.met 𝓤 H 𝓜 𝓖 𝓡)))

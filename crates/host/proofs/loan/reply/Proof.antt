@@ -1,6 +1,6 @@
--- `host::loan::reply` meets its contract. The manager is copied into a local, which is lent to `lent::handle_response` for a lifetime
+-- `host::loan::reply` meets its contract. The manager is copied into a local, which is lent to `man_lent::handle_response` for a lifetime
 -- made for that call and comes back at the last value that the call says; it and what the call tells are the answer. The slices go on to
--- the call. Of the function called the proof knows its contract alone. Assumes nothing.
+-- the call. Of the function called the proof knows its contract alone.
 use mathlib.Core.Path.{_≡_, refl, ap}
 use Prim.Native.Nat.{ℕ, _<_, _^_}
 use mathlib.Core.List.{[], _∷_, List}
@@ -42,28 +42,28 @@ use denote.Triple.Spec.{Meets, tripleOf}
 use denote.Triple.Table.{entered, cited}
 use denote.Triple.Walked.{says, Stays, stay-none, stay-none-slice, gave-slice, walkOf, goes-none, goes-none-slice, goes-gave-slice, Walks, ends-at, walked, walk-meets}
 use denote.Exit.{yes}
-use Rattle.manager.specs.Calls.{replyDone, replyStore}
-use Rattle.lent.specs.Lent.{toldOf}
-use Rattle.table.specs.declared.types.SdoClientManager.{SdoClientManager}
-use Rattle.lent.specs.declared.types.Told.{Told}
+use Rattle.manager.specs.Calls.{called, replies}
+use Rattle.man_lent.specs.Lent.{toldOf}
+use Rattle.man_table.specs.declared.types.SdoClientManager.{SdoClientManager}
+use Rattle.man_lent.specs.declared.types.Told.{Told}
 use Rattle.codec.specs.declared.command.SdoCommand.{SdoCommand}
 use Rattle.codec.specs.declared.sequence.SequenceLayerHeader.{SequenceLayerHeader}
-use Rattle.table.proofs.types.SdoClientManager as T
-use Rattle.table.proofs.types.SdoClientManager.Laws as T′
-use Rattle.lent.proofs.types.Kept as N
-use Rattle.lent.proofs.types.Kept.Laws as N′
-use Rattle.lent.proofs.types.Told as Told-p
-use Rattle.lent.proofs.types.Told.Laws as Told-l
+use Rattle.man_table.proofs.types.SdoClientManager as T
+use Rattle.man_table.proofs.types.SdoClientManager.Laws as T′
+use Rattle.man_lent.proofs.types.Kept as N
+use Rattle.man_lent.proofs.types.Kept.Laws as N′
+use Rattle.man_lent.proofs.types.Told as Told-p
+use Rattle.man_lent.proofs.types.Told.Laws as Told-l
 use Rattle.codec.proofs.command.SdoCommand as SdoCommand-p
 use Rattle.codec.proofs.command.SdoCommand.Laws as SdoCommand-l
 use Rattle.codec.proofs.sequence.SequenceLayerHeader as SequenceLayerHeader-p
 use Rattle.codec.proofs.sequence.SequenceLayerHeader.Laws as SequenceLayerHeader-l
-use Rattle.lent.proofs.Keeping.{mach}
-use Rattle.host.proofs.Lending.{cell-in, cell-out, mach-kept, made, made-is, told-value}
-use Rattle.lent.proofs.handle_response as g
-use Rattle.lent.proofs.handle_response.Symbol as g-def
-use Rattle.lent.proofs.handle_response.Symbol.{name as #lent·handle-response}
-use Rattle.lent.proofs.handle_response.Met as g-thm
+use Rattle.man_lent.proofs.KeptLayout.{mach}
+use Rattle.host.proofs.LentLocal.{cell-in, cell-out, mach-kept, made, made-is, told-value}
+use Rattle.man_lent.proofs.handle_response as g
+use Rattle.man_lent.proofs.handle_response.Symbol as g-def
+use Rattle.man_lent.proofs.handle_response.Symbol.{name as #lent·handle-response}
+use Rattle.man_lent.proofs.handle_response.Met as g-thm
 use Rattle.host.proofs.loan.reply.Key.{name as #host·reply}
 use Rattle.host.proofs.loan.reply as f
 use Rattle.host.proofs.loan.reply.Statement as stated
@@ -74,7 +74,7 @@ stayed = (stay-none (λ _. T.the-row) yes, (stay-none (λ _. u8) yes, (stay-none
 
 -- what the call says of what it tells and of the last values
 abbrev Says : SdoClientManager → ℕ → SequenceLayerHeader → SdoCommand → RefT (List ℕ) → RefT (List ℕ) → Told → SdoClientManager → List ℕ → Type 0
-Says h v-source v-seq v-cmd v-payload v-store r z z-store = ((r ≡ toldOf (replyDone h v-source v-seq v-cmd (v-payload .now) (v-store .now))) × (z ≡ replyDone h v-source v-seq v-cmd (v-payload .now) (v-store .now) .manager)) × (z-store ≡ replyStore h v-source v-seq v-cmd (v-payload .now) (v-store .now))
+Says h v-source v-seq v-cmd v-payload v-store r z z-store = ((r ≡ toldOf (called h (v-store .now) [] (replies v-source v-seq v-cmd (v-payload .now)) .done)) × (z ≡ called h (v-store .now) [] (replies v-source v-seq v-cmd (v-payload .now)) .done .manager)) × (z-store ≡ called h (v-store .now) [] (replies v-source v-seq v-cmd (v-payload .now)) .store)
 
 module _ {M : Type 1} (𝓤 : URA M) (H : Heap 𝓤) (A : Atoms 𝓤) (at-mem : Memory → SProp 𝓤) (run : Routine → Fun 𝓤) where
   -- the contract that the proof cites
@@ -163,4 +163,4 @@ reply-spec 𝓤 H 𝓜 𝓖 𝓡 =
     entered 𝓤 H (tripleOf 𝓤 H (𝓖 .A) f.signature (f.spec 𝓤 H (𝓖 .A) (𝓜 .mem) (𝓡 .run)))
     (tables 𝓤 H 𝓜 𝓡 code.env .C) (tables 𝓤 H 𝓜 𝓡 code.env .Λ) #host·reply code.function (code.unfolded 𝓤 H 𝓜 𝓡)
     (f-meets 𝓤 H (𝓖 .A) (givenOf 𝓤 H 𝓜 𝓖) (𝓜 .mem) (𝓡 .run) (tablesOf 𝓤 H 𝓜 (tables 𝓤 H 𝓜 𝓡 code.env))
-    (cited 𝓤 H (G 𝓤 H (𝓖 .A) (𝓜 .mem) (𝓡 .run)) 𝓜 𝓡 code.env #lent·handle-response g-def.routine code.calls-lent·handle-response (g-thm.met 𝓤 H 𝓜 𝓖 𝓡)))
+    (cited 𝓤 H (G 𝓤 H (𝓖 .A) (𝓜 .mem) (𝓡 .run)) 𝓜 𝓡 code.env #lent·handle-response g-def.routine code.calls-man-lent·handle-response (g-thm.met 𝓤 H 𝓜 𝓖 𝓡)))

@@ -1,6 +1,6 @@
--- `host::loan::tick` meets its contract. The manager is copied into a local, which is lent to `lent::tick` for a lifetime made for that
+-- `host::loan::tick` meets its contract. The manager is copied into a local, which is lent to `man_lent::tick` for a lifetime made for that
 -- call and comes back at the last value that the call says; it and what the call tells are the answer. The slices go on to the call. Of
--- the function called the proof knows its contract alone. Assumes nothing.
+-- the function called the proof knows its contract alone.
 use mathlib.Core.Path.{_≡_, refl, ap}
 use Prim.Native.Nat.{ℕ}
 use mathlib.Core.List.{[], _∷_, List}
@@ -41,26 +41,26 @@ use denote.Triple.Spec.{Meets, tripleOf}
 use denote.Triple.Table.{entered, cited}
 use denote.Triple.Walked.{says, Stays, stay-none, stay-none-slice, gave-slice, walkOf, goes-none, goes-none-slice, goes-gave-slice, Walks, ends-at, walked, walk-meets}
 use denote.Exit.{yes}
-use Rattle.manager.specs.Calls.{turnOf, turnOutput}
-use Rattle.table.specs.declared.types.Turn.{Turn}
-use Rattle.lent.specs.Lent.{toldOf}
-use Rattle.table.specs.declared.types.SdoClientManager.{SdoClientManager}
-use Rattle.lent.specs.declared.types.Told.{Told}
-use Rattle.sdo.specs.declared.Now.{Now}
-use Rattle.table.proofs.types.SdoClientManager as T
-use Rattle.table.proofs.types.SdoClientManager.Laws as T′
-use Rattle.lent.proofs.types.Kept as N
-use Rattle.lent.proofs.types.Kept.Laws as N′
-use Rattle.lent.proofs.types.Told as Told-p
-use Rattle.lent.proofs.types.Told.Laws as Told-l
-use Rattle.sdo.proofs.Now as Now-p
-use Rattle.sdo.proofs.Now.Laws as Now-l
-use Rattle.lent.proofs.Keeping.{mach}
-use Rattle.host.proofs.Lending.{cell-in, cell-out, mach-kept, made, made-is, told-value}
-use Rattle.lent.proofs.tick as g
-use Rattle.lent.proofs.tick.Symbol as g-def
-use Rattle.lent.proofs.tick.Symbol.{name as #lent·tick}
-use Rattle.lent.proofs.tick.Met as g-thm
+use Rattle.manager.specs.Calls.{called, turns}
+use Rattle.man_table.specs.declared.types.Turn.{Turn}
+use Rattle.man_lent.specs.Lent.{toldOf}
+use Rattle.man_table.specs.declared.types.SdoClientManager.{SdoClientManager}
+use Rattle.man_lent.specs.declared.types.Told.{Told}
+use Rattle.con_rec.specs.declared.Now.{Now}
+use Rattle.man_table.proofs.types.SdoClientManager as T
+use Rattle.man_table.proofs.types.SdoClientManager.Laws as T′
+use Rattle.man_lent.proofs.types.Kept as N
+use Rattle.man_lent.proofs.types.Kept.Laws as N′
+use Rattle.man_lent.proofs.types.Told as Told-p
+use Rattle.man_lent.proofs.types.Told.Laws as Told-l
+use Rattle.con_rec.proofs.Now as Now-p
+use Rattle.con_rec.proofs.Now.Laws as Now-l
+use Rattle.man_lent.proofs.KeptLayout.{mach}
+use Rattle.host.proofs.LentLocal.{cell-in, cell-out, mach-kept, made, made-is, told-value}
+use Rattle.man_lent.proofs.tick as g
+use Rattle.man_lent.proofs.tick.Symbol as g-def
+use Rattle.man_lent.proofs.tick.Symbol.{name as #lent·tick}
+use Rattle.man_lent.proofs.tick.Met as g-thm
 use Rattle.host.proofs.loan.tick.Key.{name as #host·tick}
 use Rattle.host.proofs.loan.tick as f
 use Rattle.host.proofs.loan.tick.Statement as stated
@@ -71,7 +71,7 @@ stayed = (stay-none (λ _. T.the-row) yes, (stay-none (λ _. Now-p.the-row) yes,
 
 -- what the call says of what it tells and of the last values
 abbrev Says : SdoClientManager → Now → RefT (List ℕ) → RefT (List ℕ) → Told → SdoClientManager → List ℕ → Type 0
-Says h v-when v-store v-output r z z-output = ((r ≡ toldOf (turnOf Turn.Ticking h v-when (v-store .now) (v-output .now))) × (z ≡ turnOf Turn.Ticking h v-when (v-store .now) (v-output .now) .manager)) × (z-output ≡ turnOutput Turn.Ticking h v-when (v-store .now) (v-output .now))
+Says h v-when v-store v-output r z z-output = ((r ≡ toldOf (called h (v-store .now) (v-output .now) (turns Turn.Ticking v-when) .done)) × (z ≡ called h (v-store .now) (v-output .now) (turns Turn.Ticking v-when) .done .manager)) × (z-output ≡ called h (v-store .now) (v-output .now) (turns Turn.Ticking v-when) .output)
 
 module _ {M : Type 1} (𝓤 : URA M) (H : Heap 𝓤) (A : Atoms 𝓤) (at-mem : Memory → SProp 𝓤) (run : Routine → Fun 𝓤) where
   -- the contract that the proof cites
@@ -160,4 +160,4 @@ tick-spec 𝓤 H 𝓜 𝓖 𝓡 =
     entered 𝓤 H (tripleOf 𝓤 H (𝓖 .A) f.signature (f.spec 𝓤 H (𝓖 .A) (𝓜 .mem) (𝓡 .run)))
     (tables 𝓤 H 𝓜 𝓡 code.env .C) (tables 𝓤 H 𝓜 𝓡 code.env .Λ) #host·tick code.function (code.unfolded 𝓤 H 𝓜 𝓡)
     (f-meets 𝓤 H (𝓖 .A) (givenOf 𝓤 H 𝓜 𝓖) (𝓜 .mem) (𝓡 .run) (tablesOf 𝓤 H 𝓜 (tables 𝓤 H 𝓜 𝓡 code.env))
-    (cited 𝓤 H (G 𝓤 H (𝓖 .A) (𝓜 .mem) (𝓡 .run)) 𝓜 𝓡 code.env #lent·tick g-def.routine code.calls-lent·tick (g-thm.met 𝓤 H 𝓜 𝓖 𝓡)))
+    (cited 𝓤 H (G 𝓤 H (𝓖 .A) (𝓜 .mem) (𝓡 .run)) 𝓜 𝓡 code.env #lent·tick g-def.routine code.calls-man-lent·tick (g-thm.met 𝓤 H 𝓜 𝓖 𝓡)))

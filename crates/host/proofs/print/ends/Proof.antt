@@ -1,4 +1,4 @@
--- `host::print::ends` is safe and ends: the measure is what is left. Assumes nothing.
+-- `host::print::ends` is safe and ends: the measure is what is left.
 use Prim.Native.Nat.{_-_}
 use borrow.Author.Needs.{needs}
 use Rattle.host.proofs.print.ends.Statement.{statement}

@@ -1,11 +1,11 @@
--- `manager::change::entered` meets its contract: each arm is one entry. Assumes nothing.
+-- `manager::change::entered` meets its contract: each arm is one entry.
 use native.Mathlib.Omega.{arith}
 use mathlib.Core.Path.{refl}
 use Rattle.laws.proofs.Answers.{told}
 use Rattle.laws.proofs.Picks.{below, not-below}
 use lib.ListN.{length}
-use Rattle.table.specs.Table.{live}
-use Rattle.table.proofs.Tables.{live-length}
+use Rattle.man_table.specs.Table.{live}
+use Rattle.man_table.proofs.Tables.{live-length}
 use Rattle.manager.specs.Change.{enteredAt}
 use borrow.Author.Needs.{needs}
 use Rattle.manager.proofs.change.entered.Statement.{statement}

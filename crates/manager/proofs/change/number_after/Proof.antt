@@ -1,4 +1,4 @@
--- `manager::change::number_after` meets its contract: a start takes the next number. Assumes nothing.
+-- `manager::change::number_after` meets its contract: a start takes the next number.
 use mathlib.Core.Path.{refl}
 use Rattle.laws.proofs.Picks.{fails, holds}
 use Rattle.manager.specs.Change.{numberAfter}

@@ -1,8 +1,8 @@
 -- `manager::enter::first_of` meets its contract. The loop's invariant: the places from the `n`-th to the `i`-th are blank, and those before
--- them are as they were. The measure is what is left of the eight. Assumes nothing.
+-- them are as they were. The measure is what is left of the eight.
 use Prim.Native.Nat.{_-_}
-use Rattle.table.proofs.Tables.{length-mapped}
-use Rattle.table.proofs.Filling.{Blanking, blanked, blanking-more, blanking-none}
+use Rattle.man_table.proofs.Tables.{length-mapped}
+use Rattle.man_table.proofs.FillLoops.{Blanking, blanked, blanking-more, blanking-none}
 use borrow.Author.Needs.{needs}
 use Rattle.manager.proofs.enter.first_of.Statement.{statement}
 use Rattle.manager.proofs.enter.first_of.Tie as tie

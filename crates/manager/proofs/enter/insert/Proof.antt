@@ -1,10 +1,10 @@
 -- `manager::enter::insert` meets its contract. The loop's invariant: the first `i` connections, with the new one in its place among them,
--- fill the first `i + 1` places, and the rest are blank. The measure is what is left of the connections held. Assumes nothing.
+-- fill the first `i + 1` places, and the rest are blank. The measure is what is left of the connections held.
 use native.Mathlib.Omega.{arith}
 use Prim.Native.Nat.{_-_}
 use lib.ListN.{getD}
-use Rattle.table.specs.Table.{blank, live}
-use Rattle.manager.proofs.Inserting.{Shifting, inserted, place-small, place-within, read-back, shifting-more, shifting-none}
+use Rattle.man_table.specs.Table.{blank, live}
+use Rattle.manager.proofs.Insertion.{Shifting, inserted, place-small, place-within, read-back, shifting-more, shifting-none}
 use borrow.Author.Needs.{needs}
 use Rattle.manager.proofs.enter.insert.Statement.{statement}
 use Rattle.manager.proofs.enter.insert.Tie as tie

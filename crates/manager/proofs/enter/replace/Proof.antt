@@ -1,5 +1,5 @@
--- `manager::enter::replace` meets its contract: a place of those held is the same place of the eight. Assumes nothing.
-use Rattle.table.proofs.Tables.{all-live, replaced, unreplaced}
+-- `manager::enter::replace` meets its contract: a place of those held is the same place of the eight.
+use Rattle.man_table.proofs.Tables.{all-live, replaced, unreplaced}
 use borrow.Author.Needs.{needs}
 use Rattle.manager.proofs.enter.replace.Statement.{statement}
 use Rattle.manager.proofs.enter.replace.Tie as tie

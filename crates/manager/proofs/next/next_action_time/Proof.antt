@@ -1,6 +1,6 @@
 -- `manager::next::next_action_time` meets its contract. The loop's invariant: `least` is the least deadline of the connections
--- from the i-th on. The measure is `i`. Assumes nothing.
-use Rattle.manager.proofs.Deadlines.{Lessening, lessening-done, lessening-more, lessening-none}
+-- from the i-th on. The measure is `i`.
+use Rattle.manager.proofs.LeastDeadline.{Lessening, lessening-done, lessening-more, lessening-none}
 use borrow.Author.Needs.{needs}
 use Rattle.manager.proofs.next.next_action_time.Statement.{statement}
 use Rattle.manager.proofs.next.next_action_time.Tie as tie

@@ -1,5 +1,5 @@
--- `manager::next::sooner` meets its contract: each arm is one case of `sooner`. Assumes nothing.
-use Rattle.manager.proofs.Deadlines.{sooner-alone, sooner-first, sooner-second}
+-- `manager::next::sooner` meets its contract: each arm is one case of `sooner`.
+use Rattle.manager.proofs.LeastDeadline.{sooner-alone, sooner-first, sooner-second}
 use borrow.Author.Needs.{needs}
 use Rattle.manager.proofs.next.sooner.Statement.{statement}
 use Rattle.manager.proofs.next.sooner.Tie as tie

@@ -1,5 +1,5 @@
--- `manager::room::room_in` meets its contract: the part lent is the room. Assumes nothing.
-use Rattle.manager.proofs.Lending.{lent-room}
+-- `manager::room::room_in` meets its contract: the part lent is the room.
+use Rattle.manager.proofs.LentRoom.{lent-room}
 use borrow.Author.Needs.{needs}
 use Rattle.manager.proofs.room.room_in.Statement.{statement}
 use Rattle.manager.proofs.room.room_in.Tie as tie

@@ -1,4 +1,4 @@
--- `ostelumiv::answers::count_refused` meets its contract: the number is the refusal's. Assumes nothing.
+-- `ostelumiv::answers::count_refused` meets its contract: the number is the refusal's.
 use borrow.Author.Needs.{needs}
 use Rattle.ostelumiv.proofs.answers.count_refused.Statement.{statement}
 use Rattle.ostelumiv.proofs.answers.count_refused.Tie as tie

@@ -1,4 +1,4 @@
--- `ostelumiv::answers::written_fields` meets its contract: each arm tells its variant. Assumes nothing.
+-- `ostelumiv::answers::written_fields` meets its contract: each arm tells its variant.
 use borrow.Author.Needs.{needs}
 use Rattle.ostelumiv.proofs.answers.written_fields.Statement.{statement}
 use Rattle.ostelumiv.proofs.answers.written_fields.Tie as tie

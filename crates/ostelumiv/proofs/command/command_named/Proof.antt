@@ -1,4 +1,4 @@
--- `ostelumiv::command::command_named` meets its contract: each return is one case of `commandNamed`. Assumes nothing.
+-- `ostelumiv::command::command_named` meets its contract: each return is one case of `commandNamed`.
 use mathlib.Core.Path.{refl}
 use Rattle.laws.proofs.Picks.{below, not-below}
 use Rattle.ostelumiv.specs.Command.{sizeNamed, commandWith}

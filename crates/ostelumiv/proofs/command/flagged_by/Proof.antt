@@ -1,4 +1,4 @@
--- `ostelumiv::command::flagged_by` meets its contract: each return is one case of `flagged`. Assumes nothing.
+-- `ostelumiv::command::flagged_by` meets its contract: each return is one case of `flagged`.
 use Rattle.laws.proofs.Picks.{is, is-not}
 use borrow.Author.Needs.{needs}
 use Rattle.ostelumiv.proofs.command.flagged_by.Statement.{statement}

@@ -1,4 +1,4 @@
--- `ostelumiv::command::ostelumiv_command_read` meets its contract: each arm tells its answer by `commandFields`. Assumes nothing.
+-- `ostelumiv::command::ostelumiv_command_read` meets its contract: each arm tells its answer by `commandFields`.
 use Rattle.laws.proofs.Answers.{told}
 use Rattle.ostelumiv.specs.Command.{commandFields}
 use borrow.Author.Needs.{needs}

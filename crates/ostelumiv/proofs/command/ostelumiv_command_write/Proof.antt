@@ -1,4 +1,4 @@
--- `ostelumiv::command::ostelumiv_command_write` meets its contract: what the numbers name is refused, or written. Assumes nothing.
+-- `ostelumiv::command::ostelumiv_command_write` meets its contract: what the numbers name is refused, or written.
 use mathlib.Core.Path.{_≡_, refl}
 use Rattle.laws.proofs.Answers.{told}
 use Rattle.codec.specs.Bytes.{Bytes}

@@ -1,4 +1,4 @@
--- `ostelumiv::command::size_named` meets its contract: each return is one case of `sizeNamed`. Assumes nothing.
+-- `ostelumiv::command::size_named` meets its contract: each return is one case of `sizeNamed`.
 use Rattle.laws.proofs.Picks.{is, is-not}
 use borrow.Author.Needs.{needs}
 use Rattle.ostelumiv.proofs.command.size_named.Statement.{statement}

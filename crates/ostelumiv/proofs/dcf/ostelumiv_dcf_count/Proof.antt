@@ -1,4 +1,4 @@
--- `ostelumiv::dcf::ostelumiv_dcf_count` meets its contract: each arm tells its answer by `countFields`. Assumes nothing.
+-- `ostelumiv::dcf::ostelumiv_dcf_count` meets its contract: each arm tells its answer by `countFields`.
 use mathlib.Core.Path.{refl}
 use Rattle.laws.proofs.Answers.{told}
 use Rattle.ostelumiv.specs.Dcf.{countFields}

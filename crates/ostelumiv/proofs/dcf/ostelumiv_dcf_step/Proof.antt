@@ -1,4 +1,4 @@
--- `ostelumiv::dcf::ostelumiv_dcf_step` meets its contract: each arm tells its answer by `stepFields`. Assumes nothing.
+-- `ostelumiv::dcf::ostelumiv_dcf_step` meets its contract: each arm tells its answer by `stepFields`.
 use mathlib.Core.Path.{refl}
 use Rattle.laws.proofs.Answers.{told}
 use Rattle.ostelumiv.specs.Dcf.{stepFields}

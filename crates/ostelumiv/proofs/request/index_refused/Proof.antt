@@ -1,4 +1,4 @@
--- `ostelumiv::request::index_refused` meets its contract: the number is the refusal's. Assumes nothing.
+-- `ostelumiv::request::index_refused` meets its contract: the number is the refusal's.
 use borrow.Author.Needs.{needs}
 use Rattle.ostelumiv.proofs.request.index_refused.Statement.{statement}
 use Rattle.ostelumiv.proofs.request.index_refused.Tie as tie

@@ -1,4 +1,4 @@
--- `ostelumiv::request::ostelumiv_read_by_index` meets its contract: each arm tells its answer by `readFields`. Assumes nothing.
+-- `ostelumiv::request::ostelumiv_read_by_index` meets its contract: each arm tells its answer by `readFields`.
 use mathlib.Core.Path.{refl}
 use Rattle.laws.proofs.Answers.{told}
 use Rattle.ostelumiv.specs.Request.{readFields}

@@ -1,4 +1,4 @@
--- `ostelumiv::request::ostelumiv_read_multiple_param` meets its contract: each arm tells its answer by `entriesFields`. Assumes nothing.
+-- `ostelumiv::request::ostelumiv_read_multiple_param` meets its contract: each arm tells its answer by `entriesFields`.
 use mathlib.Core.Path.{refl}
 use Rattle.laws.proofs.Answers.{told}
 use Rattle.ostelumiv.specs.Request.{entriesFields}

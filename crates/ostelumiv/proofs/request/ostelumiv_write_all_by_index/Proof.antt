@@ -1,4 +1,4 @@
--- `ostelumiv::request::ostelumiv_write_all_by_index` meets its contract: each arm tells its answer by `writeAllFields`. Assumes nothing.
+-- `ostelumiv::request::ostelumiv_write_all_by_index` meets its contract: each arm tells its answer by `writeAllFields`.
 use mathlib.Core.Path.{refl}
 use Rattle.laws.proofs.Answers.{told}
 use Rattle.ostelumiv.specs.Request.{writeAllFields}

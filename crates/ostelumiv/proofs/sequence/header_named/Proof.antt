@@ -1,4 +1,4 @@
--- `ostelumiv::sequence::header_named` meets its contract: each return is one case of `headerNamed`. Assumes nothing.
+-- `ostelumiv::sequence::header_named` meets its contract: each return is one case of `headerNamed`.
 use Rattle.laws.proofs.Picks.{below, not-below}
 use borrow.Author.Needs.{needs}
 use Rattle.ostelumiv.proofs.sequence.header_named.Statement.{statement}

@@ -1,4 +1,4 @@
--- `ostelumiv::sequence::ostelumiv_sequence_read` meets its contract: each arm tells its answer by `sequenceFields`. Assumes nothing.
+-- `ostelumiv::sequence::ostelumiv_sequence_read` meets its contract: each arm tells its answer by `sequenceFields`.
 use Rattle.laws.proofs.Answers.{told}
 use Rattle.ostelumiv.specs.Sequence.{sequenceFields}
 use borrow.Author.Needs.{needs}

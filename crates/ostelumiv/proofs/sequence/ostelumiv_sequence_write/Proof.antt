@@ -1,4 +1,4 @@
--- `ostelumiv::sequence::ostelumiv_sequence_write` meets its contract: what the numbers name is refused, or written. Assumes nothing.
+-- `ostelumiv::sequence::ostelumiv_sequence_write` meets its contract: what the numbers name is refused, or written.
 use mathlib.Core.Path.{_≡_, refl}
 use Rattle.laws.proofs.Answers.{told}
 use Rattle.codec.specs.Bytes.{Bytes}

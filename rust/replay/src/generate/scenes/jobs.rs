@@ -4,7 +4,7 @@ use super::{clear, free_node, play};
 use crate::client::MOST_BYTES;
 use crate::generate::draw;
 use crate::generate::stage::Stage;
-use crate::record::RESPONSE;
+use record::RESPONSE;
 
 /// Document 01's five records.
 pub fn document_run(stage: &mut Stage) {

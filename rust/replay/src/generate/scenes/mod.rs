@@ -11,8 +11,8 @@ mod table;
 mod timeouts;
 
 use super::stage::{Stage, INITIATE};
-use crate::record::ABORT;
 use crate::table::State;
+use record::ABORT;
 
 pub use replies::{stuck, upload_room};
 pub use timeouts::first_abort;

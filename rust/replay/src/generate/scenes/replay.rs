@@ -2,7 +2,7 @@
 
 use super::{clear, free_node, play};
 use crate::generate::stage::{Stage, COMPLETE, INITIATE};
-use crate::record::RECORD_BYTES;
+use record::{LENGTH, OPERATION, RECORD_BYTES};
 
 pub fn records(stage: &mut Stage) {
     bad(stage);
@@ -25,8 +25,8 @@ pub fn records(stage: &mut Stage) {
 fn bad(stage: &mut Stage) {
     for (operation, length) in [(0, 0), (8, 0), (255, 255), (6, 17), (7, 255)] {
         let mut bytes = [0; RECORD_BYTES];
-        bytes[0] = operation;
-        bytes[5] = length;
+        bytes[OPERATION] = operation;
+        bytes[LENGTH] = length;
         stage.push(bytes);
     }
 }

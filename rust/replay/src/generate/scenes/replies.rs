@@ -4,7 +4,7 @@ use super::{ask_for, clear, play, reach, At, OUTSTANDING};
 use crate::generate::stage::{
     Reply, Stage, COMPLETE, EXPEDITED, INITIALIZATION, INITIATE, SEGMENT, VALID,
 };
-use crate::record::ABORT;
+use record::ABORT;
 
 /// Nodes not held, nothing outstanding, another receive number.
 pub fn ignored(stage: &mut Stage) {

@@ -1,6 +1,6 @@
--- `SdoCommand::deserialize` meets its contract: each return is one case of `commandRead`. Assumes nothing.
+-- `SdoCommand::deserialize` meets its contract: each return is one case of `commandRead`.
 use native.Mathlib.Omega.{arith}
-use Rattle.codec.proofs.Reading.{command-short, command-unknown, command-known, payload-no-head, payload-past, payload-whole}
+use Rattle.codec.proofs.ReadCases.{command-short, command-unknown, command-known, payload-no-head, payload-past, payload-whole}
 use borrow.Author.Needs.{needs}
 use Rattle.codec.proofs.command.SdoCommand.deserialize.Statement.{statement}
 use Rattle.codec.proofs.command.SdoCommand.deserialize.Tie as tie

@@ -1,6 +1,6 @@
--- `SdoCommand::serialize` meets its contract: refused before a byte is written, or the head and the payload behind it. Assumes nothing.
+-- `SdoCommand::serialize` meets its contract: refused before a byte is written, or the head and the payload behind it.
 use native.Mathlib.Omega.{arith}
-use Rattle.codec.proofs.Writing.{head-length, bytes-length, write-refused, command-written}
+use Rattle.codec.proofs.WrittenBytes.{head-length, bytes-length, write-refused, command-written}
 use borrow.Author.Needs.{needs}
 use Rattle.codec.proofs.command.SdoCommand.serialize.Statement.{statement}
 use Rattle.codec.proofs.command.SdoCommand.serialize.Tie as tie

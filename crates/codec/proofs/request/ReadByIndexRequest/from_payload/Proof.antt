@@ -1,4 +1,4 @@
--- `ReadByIndexRequest::from_payload` meets its contract: each return is one case of `readByIndex`. Assumes nothing.
+-- `ReadByIndexRequest::from_payload` meets its contract: each return is one case of `readByIndex`.
 use Rattle.laws.proofs.Picks.{below, not-below}
 use borrow.Author.Needs.{needs}
 use Rattle.codec.proofs.request.ReadByIndexRequest.from_payload.Statement.{statement}

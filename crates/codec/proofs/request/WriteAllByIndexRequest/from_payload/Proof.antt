@@ -1,4 +1,4 @@
--- `WriteAllByIndexRequest::from_payload` meets its contract: each return is one case of `writeAllByIndex`. Assumes nothing.
+-- `WriteAllByIndexRequest::from_payload` meets its contract: each return is one case of `writeAllByIndex`.
 use Rattle.laws.proofs.Picks.{below, not-below}
 use borrow.Author.Needs.{needs}
 use Rattle.codec.proofs.request.WriteAllByIndexRequest.from_payload.Statement.{statement}

@@ -1,4 +1,4 @@
--- `WriteByIndexRequest::from_payload` meets its contract: each return is one case of `writeByIndex`. Assumes nothing.
+-- `WriteByIndexRequest::from_payload` meets its contract: each return is one case of `writeByIndex`.
 use Rattle.laws.proofs.Picks.{below, not-below}
 use borrow.Author.Needs.{needs}
 use Rattle.codec.proofs.request.WriteByIndexRequest.from_payload.Statement.{statement}

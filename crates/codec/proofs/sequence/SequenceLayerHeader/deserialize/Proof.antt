@@ -1,6 +1,6 @@
--- `SequenceLayerHeader::deserialize` meets its contract: each return is one case of `sequenceRead`. Assumes nothing.
+-- `SequenceLayerHeader::deserialize` meets its contract: each return is one case of `sequenceRead`.
 use native.Mathlib.Omega.{arith}
-use Rattle.codec.proofs.Reading.{sequence-short, sequence-whole}
+use Rattle.codec.proofs.ReadCases.{sequence-short, sequence-whole}
 use borrow.Author.Needs.{needs}
 use Rattle.codec.proofs.sequence.SequenceLayerHeader.deserialize.Statement.{statement}
 use Rattle.codec.proofs.sequence.SequenceLayerHeader.deserialize.Tie as tie

@@ -1,7 +1,7 @@
--- `SequenceLayerHeader::serialize` meets its contract: four stores are `sequenceBytes` and the rest of the buffer. Assumes nothing.
+-- `SequenceLayerHeader::serialize` meets its contract: four stores are `sequenceBytes` and the rest of the buffer.
 use native.Mathlib.Omega.{arith}
 use lib.ListN.{length-set}
-use Rattle.codec.proofs.Writing.{write-refused, write-four}
+use Rattle.codec.proofs.WrittenBytes.{write-refused, write-four}
 use borrow.Author.Needs.{needs}
 use Rattle.codec.proofs.sequence.SequenceLayerHeader.serialize.Statement.{statement}
 use Rattle.codec.proofs.sequence.SequenceLayerHeader.serialize.Tie as tie

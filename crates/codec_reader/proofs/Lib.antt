@@ -1,0 +1,5 @@
+pub mod Held
+pub mod Loan
+pub mod PlaceLoop
+pub mod Places
+pub mod Readable

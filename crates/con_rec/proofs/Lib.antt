@@ -1,0 +1,3 @@
+pub mod PartsJoined
+pub mod PayloadWritten
+pub mod Wires

@@ -1,0 +1,12 @@
+-- `con_rec::parts::first_kind` meets its contract: each return is one case of its definition.
+use Rattle.laws.proofs.Picks.{within, beyond}
+use borrow.Author.Needs.{needs}
+use Rattle.con_rec.proofs.parts.first_kind.Statement.{statement}
+use Rattle.con_rec.proofs.parts.first_kind.Tie as tie
+
+pub first-kind-spec : {M : Type 1} → statement M
+first-kind-spec =
+    tie.close
+    (tie.spec
+    (λ c. search (needs, within))
+    (λ c. search (needs, beyond)))

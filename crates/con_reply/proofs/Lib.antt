@@ -1,0 +1,9 @@
+pub mod JobCarried
+pub mod PartsAsked
+pub mod ReplyCarries
+pub mod ReplyCases
+pub mod ReplySound
+pub mod StartCarries
+pub mod StepCarries
+pub mod StepSound
+pub mod StoresWithin

@@ -1,3 +1,0 @@
-pub mod Moving
-pub mod Piece
-pub mod Types

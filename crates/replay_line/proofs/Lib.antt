@@ -1,0 +1,5 @@
+pub mod EndsText
+pub mod LineBuffer
+pub mod Lines
+pub mod PutText
+pub mod SpelledDigits

@@ -1,0 +1,3 @@
+pub mod LineRoom
+pub mod OneRecord
+pub mod PieceLeft

@@ -1,0 +1,132 @@
+-- A piece of a trace, replayed (document 01, "Replay"): records of 32 bytes, and a line for each; at most 65,535 records. What a record asks for is
+-- in replay_record's Request. What is left at the end is a short record, so only the last piece of an input may end inside one. The piece stops where the
+-- text has no room for a line more.
+use Prim.Native.Nat.{ℕ, zero, suc, _+_}
+use mathlib.Core.Bool.{Bool, true, false}
+use mathlib.Core.List.{[], _∷_}
+use lib.Dec.{eqb, ltb}
+use lib.ListN.{length, take, drop, getD}
+use Rattle.laws.specs.Pick.{pick}
+use Rattle.codec.specs.Bytes.{Bytes, placed}
+use Rattle.man_table.specs.Sweep.{noEnd, running}
+use Rattle.man_table.specs.Table.{live, tableOf}
+use Rattle.replay_line.specs.Line.{lineOf, mostLine}
+use Rattle.manager.specs.Calls.{After}
+use Rattle.replay_record.specs.Request.{Asked, granted, recordAsks}
+use Rattle.replay_piece.specs.Types.{Done, Ends, Parameter, Progress, Reason, Run, SdoClientManager}
+
+abbrev pub recordSize : ℕ
+recordSize = 32
+
+abbrev pub mostRecords : ℕ
+mostRecords = 65535
+
+-- where a replay stands: manager and progress, the store, the gather's bytes, the output, the text
+pub record Stand : Type 0 where
+  pub run : Run
+  pub store : Bytes
+  pub gather : Bytes
+  pub output : Bytes
+  pub text : Bytes
+
+-- whether the first job that ended is Complete
+abbrev pub isComplete : Reason → Bool
+isComplete Reason.Complete = true
+isComplete Reason.Cut = false
+isComplete Reason.OpenRefused = false
+isComplete Reason.Sequence = false
+isComplete (Reason.PeerAborted code) = false
+isComplete Reason.Timeout = false
+isComplete Reason.BadSegment = false
+
+unfoldable pub completes : Ends → Bool
+completes ends = pick (eqb (ends .count) 0) false (isComplete (getD (ends .list) 0 noEnd .reason))
+
+-- after a call, and a line behind the text
+abbrev pub runWith : Done → Progress → Bytes → Run
+runWith d p line =
+    record {
+      manager = d .manager;
+      progress =
+          record {
+            gathered = p .gathered;
+            number = p .number;
+            read = p .read;
+            text = p .text + length line;
+            complete = completes (d .ends);
+          };
+    }
+
+abbrev pub runOf : SdoClientManager → Progress → Run
+runOf manager progress = record { manager = manager; progress = progress }
+
+-- a record is counted, and what is gathered after it
+abbrev pub counted : Progress → ℕ → ℕ → Progress
+counted p gathered bytes =
+    record {
+      gathered = gathered;
+      number = p .number + 1;
+      read = p .read + bytes;
+      text = p .text;
+      complete = p .complete;
+    }
+
+-- 65,535 records, or no room for a line more
+abbrev pub stops : Stand → Bool
+stops s =
+    pick (eqb (s .run .progress .number) mostRecords) true (ltb (length (s .text)) (s .run .progress .text + mostLine))
+
+module _ (timeout retries : Parameter) where
+  -- a record: what it asks for, what comes of that, and its line
+  abbrev pub askedBy : Stand → Bytes → Asked
+  askedBy s b = recordAsks (s .run .progress .gathered) b timeout retries (s .gather)
+
+  abbrev pub callOf : Stand → Bytes → After
+  callOf s b = granted (s .run .manager) (s .store) (s .output) (askedBy s b .request)
+
+  abbrev pub lineFor : Stand → Bytes → Bytes
+  lineFor s b =
+      lineOf (s .run .progress .number + 1) b (callOf s b .done .answer) (callOf s b .done .ends) (callOf s b .output)
+
+  unfoldable pub afterRecord : Stand → Bytes → Stand
+  afterRecord s b =
+      record {
+        run =
+            runWith (callOf s b .done)
+            (counted (s .run .progress) (askedBy s b .gathered) (length b))
+            (lineFor s b);
+        store = callOf s b .store;
+        gather = askedBy s b .gather;
+        output = callOf s b .output;
+        text = placed (s .text) (s .run .progress .text) (lineFor s b);
+      }
+
+  -- up to so many records, one after another
+  unfoldable pub replayed : ℕ → Stand → Bytes → Stand
+  replayed zero s input = s
+  replayed (suc k) s [] = s
+  replayed (suc k) s (b ∷ more) =
+      pick (stops s) s (replayed k (afterRecord s (take recordSize (b ∷ more))) (drop recordSize (b ∷ more)))
+
+-- a run with so many bytes read of the piece
+abbrev pub standAt : SdoClientManager → Progress → ℕ → Bytes → Bytes → Bytes → Bytes → Stand
+standAt m p read store gather output text =
+    record {
+      run =
+          runOf m
+          (record { gathered = p .gathered; number = p .number; read = read; text = p .text; complete = p .complete });
+      store = store;
+      gather = gather;
+      output = output;
+      text = text;
+    }
+
+-- At its beginning connections that had ended are removed; a manager that the library's calls made holds none.
+abbrev pub begun : Run → Bytes → Bytes → Bytes → Bytes → Stand
+begun r store gather output text =
+    standAt (tableOf (running (live (r .manager))) (r .manager .«next_transaction_id»)) (r .progress) 0 store gather output text
+
+-- all the records of a piece: there are no more than its bytes
+abbrev pub pieceOf : Run → Parameter → Parameter → Bytes → Bytes → Bytes → Bytes → Bytes → Stand
+pieceOf r timeout retries input store gather output text =
+    replayed timeout retries (length input) (begun r store gather output text) input

@@ -1,0 +1,6 @@
+pub mod GatherBuffer
+pub mod GatherMore
+pub mod OperationNumber
+pub mod ReadRecord
+pub mod RecordPlan
+pub mod ReplyRecord

@@ -1,0 +1,4 @@
+pub mod Gather
+pub mod Record
+pub mod Request
+pub mod Types

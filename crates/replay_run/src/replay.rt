@@ -1,0 +1,189 @@
+// The replay (document 01, "Replay"): records of 32 bytes, a line for each. For comparisons each line is followed by the manager's state.
+use crate::parameters::Parameters;
+use crate::parameters::absent;
+use crate::parameters::read_parameters;
+use crate::state::print_state;
+use crate::state::upload_before;
+use codec::octets::part;
+use con_rec::numbers::at_most;
+use libc::STDIN_FILENO;
+use libc::STDOUT_FILENO;
+use man_table::types::STORE_SIZE;
+use man_table::types::SdoClientManager;
+use manager::types::OUTPUT_SIZE;
+use replay_line::line::MOST_LINE;
+use replay_piece::replay::replay_piece;
+use replay_piece::types::Progress;
+use replay_piece::types::Run;
+use replay_record::gather::GATHER_SIZE;
+use replay_record::record::RECORD_SIZE;
+
+fn started() -> Run {
+    Run {
+        manager: SdoClientManager::new(),
+        progress: Progress {
+            gathered: 0,
+            number: 0,
+            read: 0,
+            text: 0,
+            complete: false,
+        },
+    }
+}
+
+// The bytes that are read or written at a time: 2,048 records, and as much text.
+const BUFFER_SIZE: usize = 65536;
+
+// As much of the input as there is, up to a piece.
+fn fill(input: &mut [u8; BUFFER_SIZE]) -> usize {
+    io::read_full(STDIN_FILENO, input)
+}
+
+// The first bytes of a piece.
+fn first(b: &[u8; BUFFER_SIZE], n: usize) -> &[u8] {
+    part(b, 0, n)
+}
+
+fn write_out(text: &[u8; BUFFER_SIZE], n: usize) {
+    io::write_all(STDOUT_FILENO, part(text, 0, n));
+}
+
+// All text goes out.
+fn written(run: Run, text: &[u8; BUFFER_SIZE]) -> Run {
+    let manager = run.manager;
+    let progress = run.progress;
+    write_out(text, progress.text);
+    Run {
+        manager,
+        progress: Progress {
+            text: 0,
+            ..progress
+        },
+    }
+}
+
+// The text goes out where a line of 4,096 bytes might not fit any more.
+fn flushed(run: Run, text: &[u8; BUFFER_SIZE]) -> Run {
+    let progress = run.progress;
+    if progress.text <= BUFFER_SIZE - MOST_LINE {
+        return run;
+    }
+    written(run, text)
+}
+
+// A record by itself, its line followed by the manager's state.
+fn one_shown(
+    run: Run,
+    p: Parameters,
+    input: &[u8],
+    store: &mut [u8; STORE_SIZE],
+    gather: &mut [u8; GATHER_SIZE],
+    output: &mut [u8; OUTPUT_SIZE],
+    text: &mut [u8; BUFFER_SIZE],
+) -> Run {
+    let before = run.manager;
+    let r = run.progress;
+    let timeout = p.timeout;
+    let retries = p.retries;
+    let b = part(input, 0, at_most(input.len(), RECORD_SIZE));
+    let upload = upload_before(before, r.gathered, b);
+    let after = replay_piece(run, timeout, retries, b, store, gather, output, text);
+    let manager = after.manager;
+    let progress = after.progress;
+    if progress.read == 0 {
+        return after;
+    }
+    let shown = written(after, text);
+    print_state(manager, upload, progress.complete, store);
+    shown
+}
+
+// Some records: as many as the text has room for, or one where states are shown.
+fn some(
+    run: Run,
+    p: Parameters,
+    input: &[u8],
+    store: &mut [u8; STORE_SIZE],
+    gather: &mut [u8; GATHER_SIZE],
+    output: &mut [u8; OUTPUT_SIZE],
+    text: &mut [u8; BUFFER_SIZE],
+) -> Run {
+    let timeout = p.timeout;
+    let retries = p.retries;
+    if p.states {
+        return one_shown(run, p, input, store, gather, output, text);
+    }
+    let after = replay_piece(run, timeout, retries, input, store, gather, output, text);
+    flushed(after, text)
+}
+
+// The records of a piece.
+fn piece_by(
+    run: Run,
+    p: Parameters,
+    input: &[u8],
+    store: &mut [u8; STORE_SIZE],
+    gather: &mut [u8; GATHER_SIZE],
+    output: &mut [u8; OUTPUT_SIZE],
+    text: &mut [u8; BUFFER_SIZE],
+) -> Run {
+    let mut r = run;
+    let mut at: usize = 0;
+    while at < input.len() {
+        let left = input.len() - at;
+        r = some(r, p, part(input, at, left), store, gather, output, text);
+        let progress = r.progress;
+        // none is read where 65,535 were
+        if progress.read == 0 {
+            break;
+        }
+        if left <= progress.read {
+            break;
+        }
+        at += progress.read;
+    }
+    r
+}
+
+fn run_by(p: Parameters) {
+    let mut store = [0u8; STORE_SIZE];
+    let mut gather = [0u8; GATHER_SIZE];
+    let mut output = [0u8; OUTPUT_SIZE];
+    let mut input = io::large_buffer();
+    let mut text = io::large_buffer();
+    let mut run = started();
+    // 65,535 records lie in 32 pieces
+    let mut pieces: usize = 0;
+    while pieces < 32 {
+        let n = fill(&mut input);
+        run = piece_by(
+            run,
+            p,
+            first(&input, n),
+            &mut store,
+            &mut gather,
+            &mut output,
+            &mut text,
+        );
+        if n < BUFFER_SIZE {
+            break;
+        }
+        pieces += 1;
+    }
+    let progress = run.progress;
+    write_out(&text, progress.text);
+}
+
+// Replays standard input; timeout and retries are absent.
+pub fn replay()
+    ensures { λ _. ⊤ₛ }
+{
+    run_by(absent());
+}
+
+// Replays standard input with the parameters at its head, and shows the manager's state after each record.
+pub fn replay_states()
+    ensures { λ _. ⊤ₛ }
+{
+    run_by(read_parameters());
+}

@@ -1,3 +1,0 @@
-pub mod PartsJoined
-pub mod Wires
-pub mod Writing

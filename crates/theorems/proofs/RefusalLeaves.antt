@@ -1,0 +1,45 @@
+-- What a refusal leaves, of any manager and store.
+use Prim.Native.Nat.{ℕ}
+use mathlib.Core.Path.{_≡_, refl, sym, subst}
+use mathlib.Core.List.{List, []}
+use Rattle.laws.specs.Pick.{pick}
+use Rattle.codec.specs.Bytes.{Bytes}
+use Rattle.manager.specs.Calls.{Call, called, replies, starts, turns}
+use Rattle.theorems.specs.Run.{reported}
+use Rattle.theorems.specs.Types.{Answer, End, Refusal, SdoClientManager as Manager}
+use Rattle.theorems.specs.Untouched.{Untouched, refusedBy}
+use Rattle.theorems.proofs.Cases.{Of, Shown, reply-by, turn-by}
+use Rattle.theorems.proofs.StartBy.{start-by}
+
+-- what an answer says of what is left: of a refusal all, of others nothing
+abbrev Says : (Refusal → Manager) → Bytes → Bytes → Shown
+Says M store output k s out Answer.Nothing es = Unit {0}
+Says M store output k s out (Answer.Sent x) es = Unit {0}
+Says M store output k s out (Answer.Refused r) es = (k ≡ M r) × (s ≡ store) × (out ≡ output) × (es ≡ [])
+
+module _ (m : Manager) (store output : Bytes) where
+  same : (x : Answer) → Says (λ (r : Refusal). m) store output m store output x []
+  same Answer.Nothing = tt
+  same (Answer.Sent s) = tt
+  same (Answer.Refused r) = (refl, refl, refl, refl)
+
+  call-says : (x : Call) → Of (Says (refusedBy m x) store output) (called m store output x)
+  unfolding pick
+  call-says (starts node job n) =
+      start-by m node job n store output (Says (refusedBy m (starts node job n)) store output)
+      (λ r e. (rw e refl, refl, refl, refl)) (λ r e k f. (rw (e, f) refl, refl, refl, refl)) (λ k d long at e. tt)
+      (λ d long none few e. tt) (λ r e f none few. (rw (e, f) refl, refl, refl, refl))
+  call-says (turns t n) =
+      turn-by t m n store output (Says (λ (r : Refusal). m) store output) (λ r. (refl, refl, refl, refl)) (λ l long fits e. tt)
+      (λ k o l long fits e. tt)
+  call-says (replies node seq cmd payload) =
+      reply-by m node seq cmd payload store output (Says (λ (r : Refusal). m) store output) same (λ k d long at e. tt)
+
+pub untouched : Untouched
+unfolding Untouched
+untouched m store output x r e =
+    subst
+    (λ (y : Answer).
+    Says (refusedBy m x) store output (called m store output x .done .manager) (called m store output x .store) (called m store output x .output) y
+    (reported (called m store output x)))
+    e (call-says m store output x)

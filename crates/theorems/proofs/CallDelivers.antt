@@ -6,14 +6,13 @@ use mathlib.Core.Path.{_≡_, refl, sym, _∙_, ap, subst}
 use mathlib.Core.Bool.{false, true≢false}
 use mathlib.Core.List.{List, []}
 use lib.ListN.{length, set}
-use Rattle.laws.specs.Pick.{pick}
 use Rattle.codec.specs.Bytes.{Bytes}
 use Rattle.con_reply.specs.Reply.{replied, replyOf, roomAfter}
 use Rattle.connection.specs.Start.{isIdle}
 use Rattle.con_reply.proofs.JobCarried.{Aim, Left, Replied, Sending, joinedBy}
 use Rattle.con_reply.proofs.ReplyCarries.{reply-kept}
 use Rattle.con_reply.proofs.StoresWithin.{replied-room}
-use Rattle.manager.specs.Calls.{After, Call, Job, called, loads, numberOf, outputSize, reads, replies, roomIn, startJob, starts, turns, withRoom, writes}
+use Rattle.manager.specs.Calls.{After, Call, Job, called, numberOf, outputSize, replies, roomIn, starts, turns, withRoom}
 use Rattle.manager.proofs.LentRoom.{put-back}
 use Rattle.man_table.specs.Sweep.{endsIn, running}
 use Rattle.man_table.specs.Table.{freeRoom, insertIn, live, roomSize, storeSize, tableOf, heldAt}
@@ -80,9 +79,9 @@ replied-left a got payload room (Decision.Keeps d) h = (h, refl)
 replied-left a got payload room (Decision.Stores d from) h = absurd h
 replied-left a got payload room Decision.NoRoom h = absurd h
 
-pub record CallGood (a : Aim) (node at : ℕ) (got : List Bytes) (x : Call) (d : After) : Type 0 where
-  pub stands : Stands a node at (joinedBy got (asked node x d)) (live (d .done .manager)) (endFor node (reported d))
-  pub same : roomAt (d .store) at ≡ a .room
+abbrev pub CallGood : Aim → ℕ → ℕ → List Bytes → Call → After → Type 0
+CallGood a node at got x d =
+    Stands a node at (joinedBy got (asked node x d)) (live (d .done .manager)) (endFor node (reported d)) × (roomAt (d .store) at ≡ a .room)
 
 module _ (a : Aim) (node at : ℕ) (slot : Slotted at) (got : List Bytes) (m : Manager) (store : Bytes) (same : roomAt store at ≡ a .room)
     (t : Tracks node at (Held a got) (live m)) where
@@ -105,23 +104,19 @@ module _ (a : Aim) (node at : ℕ) (slot : Slotted at) (got : List Bytes) (m : M
 
     turn-good : (u : Turn) (n : Now) → CallGood a node at got (turns u n) (called m store output (turns u n))
     turn-good Turn.Asking n =
-        let both =
         turn-by Turn.Asking m n store output
         (λ (k : Manager) (s out : Bytes) (x : Answer) (es : List End).
         Stands a node at (joinedBy got (givenTo node out x)) (live k) (endFor node es) × (roomAt s at ≡ a .room))
         (λ r. (t, same))
         (λ l right long e. (swept got l (m .«next_transaction_id») (walked Turn.Asking n long (through l) e), same))
-        (λ k o l right long e. (swept _ l (m .«next_transaction_id») (walked Turn.Asking n long (stopped k o l) e), same)) in
-        record { stands = both .0; same = both .1 }
+        (λ k o l right long e. (swept _ l (m .«next_transaction_id») (walked Turn.Asking n long (stopped k o l) e), same))
     turn-good Turn.Ticking n =
-        let both =
         turn-by Turn.Ticking m n store output
         (λ (k : Manager) (s out : Bytes) (x : Answer) (es : List End).
         Stands a node at got (live k) (endFor node es) × (roomAt s at ≡ a .room))
         (λ r. (t, same))
         (λ l right long e. (swept got l (m .«next_transaction_id») (walked Turn.Ticking n long (through l) e), same))
-        (λ k o l right long e. (swept got l (m .«next_transaction_id») (walked Turn.Ticking n long (stopped k o l) e), same)) in
-        record { stands = both .0; same = both .1 }
+        (λ k o l right long e. (swept got l (m .«next_transaction_id») (walked Turn.Ticking n long (stopped k o l) e), same))
 
   -- what a start or a reply must leave
   abbrev Kept : Shown
@@ -138,12 +133,13 @@ module _ (a : Aim) (node at : ℕ) (slot : Slotted at) (got : List Bytes) (m : M
     abbrev decision : ℕ → Decision
     decision k = replyOf seq cmd payload (heldAt m k) (roomIn store (heldAt m k))
 
-    own-reply : (k : ℕ) (d : Connection) → length store ≡ storeSize → At node' (live m) k → node' ≡ node
-        → replied (decision k) ≡ Taken.Connection d
+    -- its own reply leaves its room; another's is taken in another room
+    answers : (k : ℕ) (d : Connection) → length store ≡ storeSize → At node' (live m) k → replied (decision k) ≡ Taken.Connection d
+        → Dec (node' ≡ node)
         → Kept (tableOf (running (set (live m) k d)) (m .«next_transaction_id»))
         (withRoom store (heldAt m k) (roomAfter (decision k) payload (roomIn store (heldAt m k)))) [] Answer.Nothing
         (endsIn (set (live m) k d))
-    own-reply k d long found e f =
+    answers k d long found f (yes e) =
         let (q, r) = tracks-at node at Q k (found .1) (found .0 ∙ e) t in
         let own : roomIn store (heldAt m k) ≡ a .room = rw r same in
         let kept : Replied a got (decision k) =
@@ -156,13 +152,7 @@ module _ (a : Aim) (node at : ℕ) (slot : Slotted at) (got : List Bytes) (m : M
           ap (λ (b : Bytes). roomAt (withRoom store (heldAt m k) b) at) s
               ∙ ap (λ (b : Bytes). roomAt b at) (put-back store long (heldAt m k)) ∙ same,
         )
-
-    other-reply : (k : ℕ) (d : Connection) → length store ≡ storeSize → At node' (live m) k → (node' ≡ node → ⊥)
-        → replied (decision k) ≡ Taken.Connection d
-        → Kept (tableOf (running (set (live m) k d)) (m .«next_transaction_id»))
-        (withRoom store (heldAt m k) (roomAfter (decision k) payload (roomIn store (heldAt m k)))) [] Answer.Nothing
-        (endsIn (set (live m) k d))
-    other-reply k d long found ne f =
+    answers k d long found f (no ne) =
         let ne' : heldAt m k .«target_node_id» ≡ node → ⊥ = λ e. ne (sym (found .0) ∙ e) in
         let o : Other node at (heldAt m k) = other-at node at Q k (found .1) ne' t in
         let fixed : Same (heldAt m k) d = replied-same seq cmd payload (heldAt m k) (roomIn store (heldAt m k)) d f in (
@@ -175,22 +165,7 @@ module _ (a : Aim) (node at : ℕ) (slot : Slotted at) (got : List Bytes) (m : M
     reply-good : (output : Bytes)
         → CallGood a node at got (replies node' seq cmd payload) (called m store output (replies node' seq cmd payload))
     reply-good output =
-        let both = reply-by m node' seq cmd payload store output Kept (λ x. (t, same)) answers in
-        record { stands = both .0; same = both .1 }
-      where
-        answers : (k : ℕ) (d : Connection) → length store ≡ storeSize → At node' (live m) k
-            → replied (decision k) ≡ Taken.Connection d
-            → Kept (tableOf (running (set (live m) k d)) (m .«next_transaction_id»))
-            (withRoom store (heldAt m k) (roomAfter (decision k) payload (roomIn store (heldAt m k)))) [] Answer.Nothing
-            (endsIn (set (live m) k d))
-        answers k d long found f = go (ℕ-discrete node' node)
-          where
-            go : Dec (node' ≡ node)
-                → Kept (tableOf (running (set (live m) k d)) (m .«next_transaction_id»))
-                (withRoom store (heldAt m k) (roomAfter (decision k) payload (roomIn store (heldAt m k)))) [] Answer.Nothing
-                (endsIn (set (live m) k d))
-            go (yes e) = own-reply k d long found e f
-            go (no ne) = other-reply k d long found ne f
+        reply-by m node' seq cmd payload store output Kept (λ x. (t, same)) (λ k d long found f. answers k d long found f (ℕ-discrete node' node))
 
   -- ---- start
   module _ (node' : ℕ) (job : Job) (n : Now) where
@@ -237,11 +212,9 @@ module _ (a : Aim) (node at : ℕ) (slot : Slotted at) (got : List Bytes) (m : M
 
     start-good : (output : Bytes) → CallGood a node at got (starts node' job n) (called m store output (starts node' job n))
     start-good output =
-        let both =
         start-by m node' job n store output Kept (λ r e. (t, same)) (λ r e k f. (t, same))
         (λ k d long found e. again k d long found e (ℕ-discrete node' node)) enters
-        (λ r e f none few. (entered (fresh m node') (numberOf m) none few (refl, refl), same)) in
-        record { stands = both .0; same = both .1 }
+        (λ r e f none few. (entered (fresh m node') (numberOf m) none few (refl, refl), same))
 
   pub call-good : (output : Bytes) (x : Call) → CallGood a node at got x (called m store output x)
   call-good output (starts k job n) = start-good k job n output

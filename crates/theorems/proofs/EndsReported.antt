@@ -13,15 +13,7 @@ use Rattle.man_table.specs.Walk.{Walking, stopped, through, walkList}
 use Rattle.theorems.specs.Reports.{Ascending, Reports}
 use Rattle.theorems.specs.Run.{Host, reached, reported}
 use Rattle.theorems.specs.Sound.{All, Before, Ordered, Reached, Sound}
-use Rattle.theorems.specs.Types.{
-  Answer,
-  End,
-  Now,
-  Outcome,
-  SdoClientConnection as Connection,
-  SdoClientManager as Manager,
-  Turn,
-}
+use Rattle.theorems.specs.Types.{End, Now, Outcome, SdoClientConnection as Connection, SdoClientManager as Manager, Turn}
 use Rattle.theorems.proofs.AllLists.{Each}
 use Rattle.theorems.proofs.Cases.{Shown, reply-by, turn-by}
 use Rattle.theorems.proofs.NodeAndRoom.{Same, replied-same}

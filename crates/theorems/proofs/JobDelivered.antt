@@ -1,5 +1,6 @@
 -- Demand 3 over a sound manager, by induction over the calls.
 use Prim.Native.Nat.{ℕ, _<_}
+use native.Mathlib.Omega.{arith}
 use mathlib.Core.Path.{_≡_, refl, sym, _∙_, subst}
 use mathlib.Core.List.{List, [], _∷_}
 use lib.ListN.{length, set}
@@ -11,7 +12,7 @@ use Rattle.con_reply.proofs.StartCarries.{Begun, aimOf, begun-job}
 use Rattle.manager.specs.Calls.{After, called, jobRoom, numberOf, roomIn, startJob, starts}
 use Rattle.man_table.specs.Table.{blank, freeRoom, insertIn, live, storeSize, tableOf, heldAt}
 use Rattle.theorems.specs.Demand.{Log, asked, endFor, follow, jobOf, unlessEnded}
-use Rattle.theorems.specs.Run.{Event, Host, left, made, reported}
+use Rattle.theorems.specs.Run.{Event, Host, left, made, reported, run}
 use Rattle.theorems.specs.Sound.{All, Slotted, Sound}
 use Rattle.theorems.specs.Types.{
   Answer,
@@ -42,25 +43,31 @@ module _ (a : Aim) (node at : ℕ) (slot : Slotted at) where
   tracked-begins got (here e f h o) = beginning (h .carries)
   tracked-begins got (there o t) = tracked-begins got t
 
-  abbrev Brings : List Bytes → Log → Type 0
-  Brings got l = For (a .entries) (a .count) (joinedBy got (l .sent)) (l .outcome) (l .figure)
+  -- while no end was reported the node is tracked
+  pub record Still (h : Host) : Type 0 where
+    pub got : List Bytes
+    pub tracks : Tracks node at (Held a got) (live (h .manager))
+    pub same : roomAt (h .store) at ≡ a .room
+
+  abbrev Brings : List Bytes → Log → Host → Type 0
+  Brings got l h = For (a .entries) (a .count) (joinedBy got (l .sent)) (l .outcome) (l .figure) × (l .outcome ≡ Outcome.Running → Still h)
 
   -- a job whose end was reported has its log closed
-  go-on : (now : List Bytes) (l : List Connection) (on : Log) (x : EndFound) → Stands a node at now l x
-      → (Tracks node at (Held a now) l → Brings now on) → Brings now (unlessEnded x on)
-  go-on now l on EndFound.Running s more = more s
-  go-on now l on (EndFound.End e) s more = s
+  go-on : (now : List Bytes) (l : List Connection) (on : Log) (h : Host) (x : EndFound) → Stands a node at now l x
+      → (Tracks node at (Held a now) l → Brings now on h) → Brings now (unlessEnded x on) h
+  go-on now l on h EndFound.Running s more = more s
+  go-on now l on h (EndFound.End e) s more = (s, λ r. let z : _≡_ {A = ℕ} 0 1 = cc r in absurd (omega arith))
 
   pub followed : (xs : List Event) (h : Host) (got : List Bytes) → roomAt (h .store) at ≡ a .room
-      → Tracks node at (Held a got) (live (h .manager)) → Brings got (follow node h xs)
-  followed [] h got same t = tracked-begins got t
+      → Tracks node at (Held a got) (live (h .manager)) → Brings got (follow node h xs) (run h xs)
+  followed [] h got same t = (tracked-begins got t, λ r. record { got = got; tracks = t; same = same })
   followed (x ∷ xs) h got same t =
       let d : After = made h x in
       let g = call-good a node at slot got (h .manager) (h .store) same t (x .output) (x .call) in
       let now : List Bytes = joinedBy got (asked node (x .call) d) in
       rw (joined-both got (asked node (x .call) d) _)
-      (go-on now (live (d .done .manager)) (follow node (left d) xs) (endFor node (reported d)) (g .stands)
-      (λ u. followed xs (left d) now (g .same) u))
+      (go-on now (live (d .done .manager)) (follow node (left d) xs) (run (left d) xs) (endFor node (reported d)) (g .0)
+      (λ u. followed xs (left d) now (g .1) u))
 
 -- ---- the start of the job itself
 start-of : (job : Sends) (c : Connection) (t : ℕ) (n : Now) (room : Bytes) → startJob (jobOf job) c t n room ≡ startOf c t n job room
@@ -153,12 +160,14 @@ module _ (m : Manager) (store : Bytes) (sound : Sound m store) (node : ℕ) (job
       start-by m node (jobOf job) n store [] (λ (k : Manager) (s out : Bytes) (x : Answer) (es : List End). BeginsIf node job k s x)
       (λ r e. tt) (λ r e k f. tt) again enters (λ r e f none few. tt)
 
+  pub begun-by : start .done .answer ≡ Answer.Nothing → Begins node job (start .done .manager) (start .store)
+  begun-by e = subst (BeginsIf node job (start .done .manager) (start .store)) e started
+
   -- of a sound manager
   pub delivered : (later : List Event)
       → let log : Log = follow node (left start) later in
       start .done .answer ≡ Answer.Nothing
       → For (entriesOf job) (counted job) (pieces (log .sent)) (log .outcome) (log .figure)
   delivered later e =
-      let b : Begins node job (start .done .manager) (start .store) =
-      subst (BeginsIf node job (start .done .manager) (start .store)) e started in
-      rw (← b .entries, ← b .count) (followed (b .aim) node (b .at) (b .slot) later (left start) [] (b .same) (b .tracks))
+      let b : Begins node job (start .done .manager) (start .store) = begun-by e in
+      rw (← b .entries, ← b .count) (followed (b .aim) node (b .at) (b .slot) later (left start) [] (b .same) (b .tracks) .0)

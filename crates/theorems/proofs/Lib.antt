@@ -18,6 +18,7 @@ pub mod RefusalLeaves
 pub mod RefusedExactly
 pub mod ReplyChecks
 pub mod Rooms
+pub mod RunningJob
 pub mod SoundCalls
 pub mod SoundStarts
 pub mod SoundTables

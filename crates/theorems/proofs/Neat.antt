@@ -11,17 +11,7 @@ use Rattle.manager.specs.Calls.{Call, called, numberOf, replies, roomIn, starts
 use Rattle.manager.proofs.WalkCalls.{live-table}
 use Rattle.theorems.specs.InPlace.{Neat, Runs}
 use Rattle.theorems.specs.Sound.{All}
-use Rattle.theorems.specs.Types.{
-  Answer,
-  End,
-  Now,
-  Outcome,
-  SdoClientConnection as Connection,
-  SdoClientManager as Manager,
-  SdoCommand,
-  SequenceLayerHeader,
-  Turn,
-}
+use Rattle.theorems.specs.Types.{Outcome, SdoClientConnection as Connection, SdoClientManager as Manager}
 use Rattle.theorems.specs.Untouched.{stepped}
 use Rattle.theorems.proofs.AllLists.{all-insert, all-set}
 use Rattle.theorems.proofs.Cases.{Shown, reply-by, turn-by}

@@ -5,7 +5,7 @@ use mathlib.Core.Path.{_≡_, refl, sym, _∙_, ap}
 use mathlib.Core.Bool.{Bool, true, false}
 use mathlib.Core.List.{List, [], _∷_}
 use lib.Dec.{ltb, eqb}
-use lib.ListN.{length, getD, set}
+use lib.ListN.{length, set}
 use borrow.Author.Tests.{eqb-true, ne-eqb}
 use Rattle.laws.specs.Pick.{pick}
 use Rattle.codec.specs.Bytes.{Bytes}
@@ -16,22 +16,11 @@ use Rattle.con_reply.proofs.StoresWithin.{replied-room}
 use Rattle.laws.proofs.Choices.{either}
 use Rattle.manager.specs.Calls.{Job, numberOf, replies, roomIn, starts, withRoom}
 use Rattle.man_table.specs.Sweep.{running, unlessEnd}
-use Rattle.man_table.specs.Table.{blank, findIn, freeRoom, insertAt, insertIn, live, oneFurther, roomSize, storeSize, tableOf, heldAt}
+use Rattle.man_table.specs.Table.{blank, freeRoom, insertAt, insertIn, live, roomSize, storeSize, tableOf, heldAt}
 use Rattle.theorems.specs.Quiet.{Holding, Leaves, QuietOthers, connection, holding, holdingIn}
 use Rattle.theorems.specs.Run.{Host, reached}
 use Rattle.theorems.specs.Sound.{All, Reached, Sane, Slotted, Sound}
-use Rattle.theorems.specs.Types.{
-  Answer,
-  Taken,
-  End,
-  Found,
-  Now,
-  Outcome,
-  SdoClientConnection as Connection,
-  SdoClientManager as Manager,
-  SdoCommand,
-  SequenceLayerHeader,
-}
+use Rattle.theorems.specs.Types.{Taken, Now, Outcome, SdoClientConnection as Connection, SdoClientManager as Manager, SdoCommand, SequenceLayerHeader}
 use Rattle.theorems.proofs.AllLists.{all-at, all-by, all-set}
 use Rattle.manager.proofs.WalkCalls.{live-table}
 use Rattle.theorems.proofs.Cases.{Absent, At, Shown, reply-by}

@@ -1,12 +1,11 @@
 -- What a refusal leaves, of any manager and store.
-use Prim.Native.Nat.{ℕ}
-use mathlib.Core.Path.{_≡_, refl, sym, subst}
-use mathlib.Core.List.{List, []}
+use mathlib.Core.Path.{_≡_, refl, subst}
+use mathlib.Core.List.{[]}
 use Rattle.laws.specs.Pick.{pick}
 use Rattle.codec.specs.Bytes.{Bytes}
 use Rattle.manager.specs.Calls.{Call, called, replies, starts, turns}
 use Rattle.theorems.specs.Run.{reported}
-use Rattle.theorems.specs.Types.{Answer, End, Refusal, SdoClientManager as Manager}
+use Rattle.theorems.specs.Types.{Answer, Refusal, SdoClientManager as Manager}
 use Rattle.theorems.specs.Untouched.{Untouched, refusedBy}
 use Rattle.theorems.proofs.Cases.{Of, Shown, reply-by, turn-by}
 use Rattle.theorems.proofs.StartBy.{start-by}

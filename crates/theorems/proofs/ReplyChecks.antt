@@ -2,7 +2,7 @@
 use Prim.Native.Nat.{ℕ, _+_, _≤_, _<_, _%_}
 use native.Mathlib.Omega.{arith}
 use mathlib.Core.Path.{_≡_, sym, _∙_}
-use mathlib.Core.Bool.{true, false, true≢false}
+use mathlib.Core.Bool.{true≢false}
 use lib.Dec.{leb, eqb}
 use lib.ListN.{length}
 use borrow.Author.Tests.{eqb-true, eqb-false, leb-true, leb-false}
@@ -49,29 +49,24 @@ same-cause A B f g (Decision.Stores c from) h = λ b. h (g b)
 same-cause A B f g Decision.NoRoom h = f h
 
 module _ (room : Bytes) (size : length room ≡ roomSize) where
-  last-if : (c : Connection) (from n : ℕ) → NoRoomIf (roomSize < from + n) (storedLast (roomFor from n room) c from)
-  unfolding roomFor NoRoomIf
-  last-if c from n =
-      decided (λ (x : RoomFor). NoRoomIf (roomSize < from + n) (storedLast x c from)) (leb (from + n) (length room))
-      (RoomFor.Upto (from + n)) RoomFor.NoRoom (λ h z. short (leb-true _ _ h) z) (λ h. past (leb-false _ _ h))
-    where
-      short : from + n ≤ length room → roomSize < from + n → ⊥
-      short h z = omega arith
+  module _ (c : Connection) (from n : ℕ) where
+    short : from + n ≤ length room → roomSize < from + n → ⊥
+    short h z = omega arith
 
-      past : length room < from + n → roomSize < from + n
-      past h = omega arith
+    past : length room < from + n → roomSize < from + n
+    past h = omega arith
 
-  more-if : (c : Connection) (from n : ℕ) → NoRoomIf (roomSize < from + n) (storedMore (roomFor from n room) c from)
-  unfolding roomFor NoRoomIf
-  more-if c from n =
-      decided (λ (x : RoomFor). NoRoomIf (roomSize < from + n) (storedMore x c from)) (leb (from + n) (length room))
-      (RoomFor.Upto (from + n)) RoomFor.NoRoom (λ h z. short (leb-true _ _ h) z) (λ h. past (leb-false _ _ h))
-    where
-      short : from + n ≤ length room → roomSize < from + n → ⊥
-      short h z = omega arith
+    last-if : NoRoomIf (roomSize < from + n) (storedLast (roomFor from n room) c from)
+    unfolding roomFor NoRoomIf
+    last-if =
+        decided (λ (x : RoomFor). NoRoomIf (roomSize < from + n) (storedLast x c from)) (leb (from + n) (length room))
+        (RoomFor.Upto (from + n)) RoomFor.NoRoom (λ h. short (leb-true _ _ h)) (λ h. past (leb-false _ _ h))
 
-      past : length room < from + n → roomSize < from + n
-      past h = omega arith
+    more-if : NoRoomIf (roomSize < from + n) (storedMore (roomFor from n room) c from)
+    unfolding roomFor NoRoomIf
+    more-if =
+        decided (λ (x : RoomFor). NoRoomIf (roomSize < from + n) (storedMore x c from)) (leb (from + n) (length room))
+        (RoomFor.Upto (from + n)) RoomFor.NoRoom (λ h. short (leb-true _ _ h)) (λ h. past (leb-false _ _ h))
 
   first-reply : (kind : Segmentation) (c : Connection) (n : ℕ)
       → NoRoomIf (Past State.UploadInit kind (c .job .uploaded) n) (replyFirst kind c n room)

@@ -2,7 +2,7 @@
 use Prim.Native.Nat.{ℕ, _<_}
 use mathlib.Core.Path.{_≡_, refl}
 use mathlib.Core.Bool.{true, false}
-use mathlib.Core.List.{List, []}
+use mathlib.Core.List.{[]}
 use lib.Dec.{leb, eqb}
 use lib.ListN.{length, set}
 use borrow.Author.Tests.{eqb-true, leb-false, lt-ltb}

@@ -8,4 +8,5 @@ pub mod Run
 pub mod Sound
 pub mod Types
 pub mod Untouched
+pub mod WhileRunning
 pub mod Worked

@@ -3,7 +3,7 @@
 SHELL = /bin/bash
 .SHELLFLAGS = -o pipefail -c
 
-.PHONY: test replay lib display trace compare dissect bench
+.PHONY: test replay lib display trace capture compare dissect bench
 
 test:
 	bash .ci/run
@@ -11,24 +11,33 @@ test:
 # The replay, proved and built: document 01's run, or the trace that TRACE names, records or (in a file named .txt) readable lines.
 TRACE = traces/document01.trace
 replay:
+	@[ -r '$(TRACE)' ] && [ ! -d '$(TRACE)' ] || { echo "replay: there is no file $(TRACE), or it cannot be read" >&2; exit 1; }
 	@rt check replay 1>&2
 	@tests/programs
 	@case '$(TRACE)' in *.txt) $(MAKE) -s trace < '$(TRACE)' | target/run/replay ;; *) target/run/replay < '$(TRACE)' ;; esac
 
 # The static library for C and Rust on x86-64: target/staticlib/libostelumiv.a, with include/ostelumiv.h.
 lib:
-	@rt staticlib ostelumiv 1>&2
+	@tests/library 1>&2
 
-# Frames as hex on standard input, one a line, shown in words; with DO=replay, the lines that the replay printed (docs/TRACES.md).
+# Frames as hex on standard input, one a line, shown in words; with DO=replay, the lines that the replay printed; with DO=--help, how
+# (docs/TRACES.md).
 display: DO =
 display: lib
 	@cd rust && ../tests/x86-64 cargo run --release --offline --quiet -p display -- $(DO)
 
-# Readable lines on standard input to the replay's records on standard output; with DO=read, records to lines (docs/TRACES.md).
+# Readable lines on standard input to the replay's records on standard output; with DO=read, records to lines; with DO=--help, how
+# (docs/TRACES.md).
 trace: DO = write
 trace:
 	@cd rust && cargo build --release --offline --quiet -p trace
 	@rust/target/release/trace $(DO)
+
+# The replay's lines on standard input to a capture file for Wireshark on standard output: what was sent.
+capture: DO =
+capture:
+	@cd rust && cargo build --release --offline --quiet -p capture
+	@rust/target/release/capture $(DO)
 
 # The whole client against the repository's: RECORDS records drawn, every line and state compared, and how often each rule was reached;
 # the replay of traces/ held to their lines, and random bytes through it.

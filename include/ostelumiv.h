@@ -1,4 +1,16 @@
-/* Ostelumiv: the proved codec of an Ethernet POWERLINK SDO client, for C.
+/* Ostelumiv 4.0.0: the proved codec of an Ethernet POWERLINK SDO client, for C.
+ *
+ * WARNING. The flag bits of a command are those of the repository that this client was carried over from, not those of EPSG DS 301:
+ *
+ *                     here and in the repository    EPSG DS 301
+ *     response        0x10                          0x80
+ *     abort           0x20                          0x40
+ *     segmentation    0xC0 (value x 64)             0x30 (value x 16)
+ *
+ * An answer in which a node that follows EPSG DS 301 aborts (flags C0) is read here with is_aborted 0 and segmentation Complete. Whoever
+ * takes such an answer for an acknowledgement takes a refused write for a written one. docs/DIFFERENCES.md has all the cases.
+ *
+ * These functions are the codec alone: bytes to numbers and back. The connection, the manager and the replay can be had from Rattle only.
  *
  * Link with the static library that `make lib` writes, target/staticlib/libostelumiv.a.
  *
@@ -13,6 +25,9 @@
 
 #include <stddef.h>
 #include <stdint.h>
+
+/* The version of this header and of the library, the same as that of the Rust crates. */
+#define OSTELUMIV_VERSION "4.0.0"
 
 #ifdef __cplusplus
 extern "C" {
@@ -79,9 +94,9 @@ struct ostelumiv_written ostelumiv_sequence_write(uint8_t receive_sequence_numbe
 struct ostelumiv_command {
     uint8_t refusal;
     uint8_t transaction_id;
-    uint8_t is_response; /* 0 or 1 */
-    uint8_t is_aborted;  /* 0 or 1 */
-    uint8_t segmentation;
+    uint8_t is_response; /* 0 or 1: the bit 0x10 of the flags, see the warning above */
+    uint8_t is_aborted;  /* 0 or 1: the bit 0x20 */
+    uint8_t segmentation; /* the bits 0xC0 */
     uint8_t command_id;
     uint16_t segment_size;
     uint8_t has_data_size; /* 1 exactly with Initiate */

@@ -5,12 +5,13 @@ use native.Mathlib.Omega.{arith}
 use mathlib.Core.Path.{_≡_, refl, _∙_}
 use mathlib.Core.Bool.{Bool, true, false}
 use mathlib.Core.List.{List, [], _∷_, map}
+use mathlib.Core.Logic.{inl, inr, ⊎-elim}
 use lib.Dec.{eqb}
 use borrow.Author.Tests.{eqb-true, eqb-false}
 use lib.ListN.{length}
 use Rattle.bytes.specs.Bytes.{indexOf, indexAfter, slice}
 use Rattle.laws.specs.Pick.{pick}
-use Rattle.codec.specs.Command.{commandNumber, commands, commandNumbers, commandAmong, commandOf}
+use Rattle.codec.specs.Command.{Named, commandNumber, commands, commandNumbers, commandAmong, commandOf}
 use Rattle.codec.specs.declared.command.CommandDecoded.{CommandDecoded}
 use Rattle.codec.specs.declared.command.CommandId.{CommandId}
 
@@ -41,28 +42,20 @@ pub decoded : (n place : ℕ) (d : CommandDecoded) → place ≡ 0 + indexOf n (
 unfolding commandOf slice
 decoded n place d e h = h ∙ rw (e, zero-add) (by-place n commands)
 
--- The membership rule: a number names a command exactly when it stands in the table, and then it is that command's number.
-abbrev pub NotIn : ℕ → List ℕ → Type 0
-NotIn n [] = Unit
-NotIn n (x ∷ xs) = (x ≡ n → ⊥) × NotIn n xs
-
-abbrev pub Named : ℕ → List ℕ → CommandDecoded → Type 0
-Named n table (CommandDecoded.Known id) = commandNumber id ≡ n
-Named n table CommandDecoded.Unknown = NotIn n table
-
+-- The membership rule, by going through the table once.
 named-in : (n : ℕ) (l : List CommandId) → Named n (map commandNumber l) (commandAmong n l)
 unfolding pick
-named-in n [] = tt
+named-in n [] = λ z. z
 named-in n (id ∷ rest) = go (eqb (commandNumber id) n) refl (named-in n rest)
   where
     longer : (d : CommandDecoded) → (commandNumber id ≡ n → ⊥) → Named n (map commandNumber rest) d
         → Named n (commandNumber id ∷ map commandNumber rest) d
-    longer (CommandDecoded.Known i) other h = h
-    longer CommandDecoded.Unknown other h = (other, h)
+    longer (CommandDecoded.Known i) other h = (inr (h .0), h .1)
+    longer CommandDecoded.Unknown other h = ⊎-elim other h
 
     go : (t : Bool) → eqb (commandNumber id) n ≡ t → Named n (map commandNumber rest) (commandAmong n rest)
         → Named n (commandNumber id ∷ map commandNumber rest) (pick t (CommandDecoded.Known id) (commandAmong n rest))
-    go true e h = eqb-true (commandNumber id) n e
+    go true e h = let same = eqb-true (commandNumber id) n e in (inl same, same)
     go false e h = longer (commandAmong n rest) (eqb-false (commandNumber id) n e) h
 
 pub membership : (n : ℕ) → Named n commandNumbers (commandOf n)

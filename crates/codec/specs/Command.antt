@@ -4,6 +4,7 @@ use Prim.Native.Nat.{ℕ, _+_, _*_, _/_, _%_}
 use mathlib.Core.Path.{_≡_}
 use mathlib.Core.Bool.{Bool, true, false}
 use mathlib.Core.List.{List, [], _∷_, _++_}
+use mathlib.Core.Logic.{_⊎_}
 use lib.Dec.{ltb, eqb}
 use lib.ListN.{length, getD}
 use Rattle.laws.specs.Pick.{pick, among}
@@ -55,6 +56,11 @@ commands =
 abbrev pub commandNumbers : List ℕ
 commandNumbers = 0x00 ∷ 0x01 ∷ 0x02 ∷ 0x03 ∷ 0x04 ∷ 0x05 ∷ 0x06 ∷ 0x20 ∷ 0x21 ∷ 0x31 ∷ 0x32 ∷ 0x40 ∷ 0x70 ∷ []
 
+-- a number stands in a table
+abbrev pub In : ℕ → List ℕ → Type 0
+In n [] = ⊥
+In n (x ∷ table) = (x ≡ n) ⊎ In n table
+
 -- the listing: places 0 to 12 give their number, others none
 unfoldable pub commandAt : ℕ → CommandListed
 commandAt place = pick (ltb place 13) (CommandListed.Number (getD commandNumbers place 0)) CommandListed.NoneSuch
@@ -66,6 +72,11 @@ commandAmong n (id ∷ rest) = pick (eqb (commandNumber id) n) (CommandDecoded.K
 
 unfoldable pub commandOf : ℕ → CommandDecoded
 commandOf n = commandAmong n commands
+
+-- The table's membership rule: a number is decoded exactly when it stands in the table, and then as the command whose number it is.
+abbrev pub Named : ℕ → List ℕ → CommandDecoded → Type 0
+Named n table (CommandDecoded.Known id) = In n table × (commandNumber id ≡ n)
+Named n table CommandDecoded.Unknown = In n table → ⊥
 
 -- Segmentation: Expedited 0, Initiate 1, Segment 2, Complete 3.
 abbrev pub segmentationNumber : Segmentation → ℕ

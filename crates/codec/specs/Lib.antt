@@ -1,4 +1,5 @@
 pub mod Bytes
+pub mod Causes
 pub mod Command
 pub mod Dcf
 pub mod Refusals

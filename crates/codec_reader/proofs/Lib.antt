@@ -3,3 +3,4 @@ pub mod Loan
 pub mod PlaceLoop
 pub mod Places
 pub mod Readable
+pub mod SuccessiveCalls

@@ -24,7 +24,7 @@ First b es DcfStep.End = es ≡ []
 First b es DcfStep.Unreadable = es ≡ []
 
 -- the readable entries from a place on
-abbrev from : Bytes → DcfCursor → List Bytes
+abbrev pub from : Bytes → DcfCursor → List Bytes
 from b c = entriesFrom (c .left) b (c .at)
 
 -- one step leaves out the first entry, and n steps the first n
@@ -43,7 +43,7 @@ unfolding pick
 none b zero h = refl
 none b (suc k) h = rw (lt-leb (4 + 7) (length b) (omega arith))
 
-first : (b : Bytes) → from b (firstPlace b) ≡ readableEntries b
+pub first : (b : Bytes) → from b (firstPlace b) ≡ readableEntries b
 first b = go (dcfCount b) (counted-so b)
   where
     go : (k : DcfCount) → Counted b k → entriesFrom (counted k) b 4 ≡ readableEntries b

@@ -9,7 +9,7 @@ use Rattle.codec.specs.Bytes.{Bytes}
 use Rattle.codec.specs.Dcf.{entriesFrom}
 use Rattle.con_reply.specs.Consistent.{LiesIn}
 use Rattle.con_reply.specs.Delivery.{isOpening, unless, piecesAfter, withoutOpenings, Beginning, nothing, part, whole, ForEnd}
-use Rattle.con_reply.specs.Sent.{Sent, Sized, logged}
+use Rattle.con_reply.specs.Sent.{Sent}
 use Rattle.con_rec.specs.Parts.{wire}
 use Rattle.con_rec.specs.Record.{ended}
 use Rattle.connection.specs.Types.{
@@ -20,9 +20,7 @@ use Rattle.connection.specs.Types.{
   Reason,
   SdoClientConnection as Connection,
   SdoClientConnectionState as State,
-  Stepped,
 }
-use Rattle.con_reply.specs.declared.reply.Decision.{Decision}
 
 -- what a job is to bring: the room that it lies in, its own bytes, its readable entries, and how many are counted
 pub record Aim : Type 0 where
@@ -145,20 +143,6 @@ after-both got (s ∷ k) l = after-both _ k l
 
 pub joined-both : (got : List Bytes) (k l : List Sent) → joinedBy got (k ++ l) ≡ joinedBy (joinedBy got k) l
 joined-both got k l = rw (without-both k l) (after-both got (withoutOpenings k) (withoutOpenings l))
-
--- the calls: ask's command is joined to what was sent, tick's is not, and a reply leaves the room as it is
-unfoldable pub Asked : Aim → List Bytes → Stepped → Type 0
-Asked a got (Stepped.Went s) = Left a (joinedBy got (logged (a .room) (s .sends))) (s .connection) × Sized (a .room) (s .sends)
-Asked a got (Stepped.Refused r) = Unit {0}
-
-unfoldable pub Ticked : Aim → List Bytes → Stepped → Type 0
-Ticked a got (Stepped.Went s) = Left a got (s .connection)
-Ticked a got (Stepped.Refused r) = Unit {0}
-
-unfoldable pub Replied : Aim → List Bytes → Decision → Type 0
-Replied a got (Decision.Keeps c) = Left a got c
-Replied a got (Decision.Stores c from) = ⊥
-Replied a got Decision.NoRoom = ⊥
 
 -- ---- at any moment, what was joined is a beginning of the entries
 begins : (ws ps es : List Bytes) → Beginning ps es → Beginning (ws ++ ps) (ws ++ es)

@@ -7,3 +7,4 @@ pub mod StartCarries
 pub mod StepCarries
 pub mod StepSound
 pub mod StoresWithin
+pub mod UploadJoined

@@ -1,14 +1,17 @@
--- What a reply comes to, case by case: to show something of it, it is enough to show it of each case.
+-- What a reply comes to, as one of a few cases, each with what decides it: by its numbers and its abort mark, and then by state. To show something
+-- of a reply it is enough to show it of each case.
 use Prim.Native.Nat.{ℕ, _+_, _%_, _≤_}
 use mathlib.Core.Path.{_≡_, refl}
+use mathlib.Core.Bool.{true, false}
 use lib.Dec.{leb, eqb}
 use lib.ListN.{length}
-use borrow.Author.Tests.{eqb-true, leb-true}
+use borrow.Author.Tests.{eqb-false, eqb-true, leb-true}
 use Rattle.laws.proofs.Choices.{decided, either}
 use Rattle.codec.specs.Bytes.{Bytes}
 use Rattle.codec.specs.Request.{abortCode}
 use Rattle.con_rec.specs.Record.{ended}
 use Rattle.connection.specs.Types.{
+  Outgoing,
   Outstanding,
   Reason,
   SdoClientConnection as Connection,
@@ -75,7 +78,7 @@ module _ (c : Connection) (n : ℕ) (room : Bytes) (P : Decision → Type 0) (b 
   later Segmentation.Segment e = stored-more (λ h. rw e at h) (c .job .uploaded)
   later Segmentation.Complete e = stored-last (λ h. rw e at h) (c .job .uploaded)
 
-  in-by : (seq : SequenceLayerHeader) (kind : Segmentation) (s : State) → c .state ≡ s → P (replyIn s seq kind c n room)
+  pub in-by : (seq : SequenceLayerHeader) (kind : Segmentation) (s : State) → c .state ≡ s → P (replyIn s seq kind c n room)
   in-by seq kind State.Idle e = b .out-of-place
   in-by seq kind State.Opening e =
       either Q (receiveInitializes (seq .«receive_con»)) _ _
@@ -90,28 +93,57 @@ module _ (c : Connection) (n : ℕ) (room : Bytes) (P : Decision → Type 0) (b 
   in-by seq kind State.DownloadInProgress e = b .sent e
   in-by seq kind State.Closed e = b .out-of-place
 
-module _ (seq : SequenceLayerHeader) (cmd : SdoCommand) (payload : Bytes) (c : Connection) (room : Bytes) (P : Decision → Type 0) where
+module _ (seq : SequenceLayerHeader) (cmd : SdoCommand) (payload : Bytes) (c : Connection) (room : Bytes) where
   abbrev send : ℕ
   send = seq .«send_sequence_number»
 
   abbrev last : ℕ
   last = c .«last_received_sequence_number»
 
-  -- not for the command outstanding, the number last received, a wrong number; the successor, with the abort mark or without
-  pub reply-by : P (Decision.Keeps c) → P (Decision.Keeps (cleared c last)) → P (Decision.Keeps (ended c Reason.Sequence))
+  -- for the command outstanding
+  abbrev For : Outgoing → Type 0
+  For o = (c .waiting .«last_sent_command» ≡ Outstanding.Waits o) × (seq .«receive_sequence_number» ≡ o .send)
+
+  -- nothing is outstanding; not for the command outstanding; the number last received, a wrong one; the successor, with the abort mark or without
+  pub data ReplyView : Decision → Type 0 where
+    unasked : c .waiting .«last_sent_command» ≡ Outstanding.Nothing → ReplyView (Decision.Keeps c)
+    other : {o : Outgoing} → c .waiting .«last_sent_command» ≡ Outstanding.Waits o → (seq .«receive_sequence_number» ≡ o .send → ⊥)
+        → ReplyView (Decision.Keeps c)
+    again : {o : Outgoing} → For o → send ≡ last → ReplyView (Decision.Keeps (cleared c last))
+    wrong : {o : Outgoing} → For o → (send ≡ (last + 1) % 64 → ⊥) → ReplyView (Decision.Keeps (ended c Reason.Sequence))
+    aborted : {o : Outgoing} → For o → send ≡ (last + 1) % 64 → cmd .header .«is_aborted» ≡ true
+        → ReplyView (Decision.Keeps (ended (cleared c send) (Reason.PeerAborted (abortCode payload))))
+    taken : {o : Outgoing} → For o → (send ≡ last → ⊥) → send ≡ (last + 1) % 64 → cmd .header .«is_aborted» ≡ false
+        → ReplyView (replyIn (c .state) seq (cmd .header .segmentation) (cleared c send) (length payload) room)
+
+  pub reply-view : ReplyView (replyOf seq cmd payload c room)
+  unfolding replyOf
+  reply-view = go (c .waiting .«last_sent_command») refl
+    where
+      go : (x : Outstanding) → c .waiting .«last_sent_command» ≡ x → ReplyView (replyTo x seq cmd payload c room)
+      go Outstanding.Nothing e = unasked e
+      go (Outstanding.Waits o) e =
+          decided ReplyView (eqb (seq .«receive_sequence_number») (o .send)) _ _
+          (λ f.
+          decided ReplyView (eqb send last) _ _ (λ g. again (e, eqb-true _ _ f) (eqb-true _ _ g))
+          (λ g.
+          decided ReplyView (eqb send ((last + 1) % 64)) _ _
+          (λ h.
+          decided ReplyView (cmd .header .«is_aborted») _ _ (aborted (e, eqb-true _ _ f) (eqb-true _ _ h))
+          (taken (e, eqb-true _ _ f) (eqb-false _ _ g) (eqb-true _ _ h)))
+          (λ h. wrong (e, eqb-true _ _ f) (eqb-false _ _ h))))
+          (λ f. other e (eqb-false _ _ f))
+
+  pub reply-by : (P : Decision → Type 0) → P (Decision.Keeps c) → P (Decision.Keeps (cleared c last)) → P (Decision.Keeps (ended c Reason.Sequence))
       → (send ≡ (last + 1) % 64 → P (Decision.Keeps (ended (cleared c send) (Reason.PeerAborted (abortCode payload)))))
       → (send ≡ (last + 1) % 64 → ByState (cleared c send) (length payload) room P)
       → P (replyOf seq cmd payload c room)
-  unfolding replyOf
-  reply-by ignored again wrong aborted taken = go (c .waiting .«last_sent_command»)
+  reply-by P ignored same bad marked by = go reply-view
     where
-      go : (o : Outstanding) → P (replyTo o seq cmd payload c room)
-      go Outstanding.Nothing = ignored
-      go (Outstanding.Waits o) =
-          either P (eqb (seq .«receive_sequence_number») (o .send)) _ _
-          (either P (eqb send last) _ _ again
-          (decided P (eqb send ((last + 1) % 64)) _ _
-          (λ h. either P (cmd .header .«is_aborted») _ _ (aborted (eqb-true _ _ h))
-          (in-by (cleared c send) (length payload) room P (taken (eqb-true _ _ h)) seq (cmd .header .segmentation) (c .state) refl))
-          (λ h. wrong)))
-          ignored
+      go : {x : Decision} → ReplyView x → P x
+      go (unasked e) = ignored
+      go (other e f) = ignored
+      go (again f g) = same
+      go (wrong f h) = bad
+      go (aborted f h a) = marked h
+      go (taken f g h a) = in-by (cleared c send) (length payload) room P (by h) seq (cmd .header .segmentation) (c .state) refl

@@ -10,7 +10,7 @@ use Rattle.codec.specs.Bytes.{Bytes}
 use Rattle.codec.specs.Dcf.{dcfStep}
 use Rattle.codec.specs.Request.{abortCode}
 use Rattle.codec.proofs.Entries.{Stepped as Found, stepped}
-use Rattle.con_reply.specs.Consistent.{Consistent, LiesIn, isClosed, isEnded}
+use Rattle.con_reply.specs.Consistent.{Consistent, LiesIn, LoadsIn, isClosed, isEnded}
 use Rattle.con_rec.specs.Parts.{total}
 use Rattle.con_rec.specs.Record.{updated, nextTransaction}
 use Rattle.con_reply.specs.Reply.{
@@ -40,7 +40,7 @@ use Rattle.connection.specs.Types.{
 use Rattle.con_reply.specs.declared.reply.Decision.{Decision}
 use Rattle.laws.proofs.Choices.{either}
 use Rattle.con_reply.proofs.ReplyCases.{ByState, reply-by}
-use Rattle.con_reply.proofs.StepSound.{TakenSound, ended-sound, other-room, runs, with-parts}
+use Rattle.con_reply.proofs.StepSound.{TakenSound, ended-sound, not-downloading, other-room, runs, with-parts}
 use Rattle.con_reply.proofs.StoresWithin.{replied-room}
 
 -- a connection whose command was cleared
@@ -48,15 +48,17 @@ module _ (b : Connection) (number : ℕ) (room : Bytes) (i : Consistent (cleared
   abbrev c : Connection
   c = cleared b number
 
-  moved : (s : State) (t : ℕ) (job : SdoJob) → LiesIn (job .size) (job .loaded) → job .size ≤ length room
-      → isEnded (c .outcome) ≡ isClosed s → Consistent (updated c s t (c .«send_sequence_number») number job (c .waiting) (c .outcome)) room
-  moved s t job h k e = with-parts c room i s t job (c .waiting) (c .outcome) tt h k e
+  moved : (s : State) (t : ℕ) (job : SdoJob) → LiesIn (job .size) (job .loaded) → job .size ≤ length room → LoadsIn s (job .loaded)
+      → job .uploaded ≤ length room → isEnded (c .outcome) ≡ isClosed s
+      → Consistent (updated c s t (c .«send_sequence_number») number job (c .waiting) (c .outcome)) room
+  moved s t job h k l u e = with-parts c room i s t job (c .waiting) (c .outcome) tt tt h k l u e
 
   delivered-sound : Consistent (withJob c (deliveredOne (c .job))) room
-  delivered-sound = moved (c .state) (c .«transaction_id») (deliveredOne (c .job)) (i .within) (i .held) (i .ends)
+  delivered-sound =
+      moved (c .state) (c .«transaction_id») (deliveredOne (c .job)) (i .within) (i .held) (i .loads) (i .brings) (i .ends)
 
-  bytes-sound : (n : ℕ) → Consistent (withBytes c n) room
-  bytes-sound n = moved (c .state) (c .«transaction_id») (withUpload (c .job) n) (i .within) (i .held) (i .ends)
+  bytes-sound : (n : ℕ) → n ≤ length room → Consistent (withBytes c n) room
+  bytes-sound n h = moved (c .state) (c .«transaction_id») (withUpload (c .job) n) (i .within) (i .held) (i .loads) h (i .ends)
 
   -- a download goes on
   next-sound : isEnded (c .outcome) ≡ false → (d : DcfStep)
@@ -64,7 +66,7 @@ module _ (b : Connection) (number : ℕ) (room : Bytes) (i : Consistent (cleared
   next-sound r (DcfStep.Entry index sub start len next) st =
       moved State.Established (nextTransaction (c .«transaction_id»))
       (withTransfer (deliveredOne (c .job)) (record { index = index; «sub_index» = sub; start = start; len = len }) next)
-      (omega (arith, st .2, length-take (c .job .size) room)) (i .held) r
+      (omega (arith, st .2, length-take (c .job .size) room)) (i .held) tt (i .brings) r
   next-sound r DcfStep.End st = ended-sound (withJob c (deliveredOne (c .job))) room delivered-sound Reason.Complete
   next-sound r DcfStep.Unreadable st = ended-sound (withJob c (deliveredOne (c .job))) room delivered-sound Reason.Cut
 
@@ -80,21 +82,33 @@ module _ (b : Connection) (number : ℕ) (room : Bytes) (i : Consistent (cleared
       record {
         out-of-place = ended-sound c room i Reason.Sequence;
         opened = λ e.
-            moved State.Established (c .«transaction_id») (c .job) (i .within) (i .held) (runs c room i State.Opening e refl);
+            moved State.Established (c .«transaction_id») (c .job) (i .within) (i .held)
+            (not-downloading State.Established refl (c .job .loaded)) (i .brings) (runs c room i State.Opening e refl);
         refused = ended-sound c room i Reason.OpenRefused;
         sent = λ e. sent-sound (runs c room i State.DownloadInProgress e refl) (c .job .loaded);
         uploads = λ e.
             moved State.UploadInProgress (c .«transaction_id») (withUpload (c .job) 0) (i .within) (i .held)
-            (runs c room i State.UploadInit e refl);
+            (not-downloading State.UploadInProgress refl (c .job .loaded)) (omega arith) (runs c room i State.UploadInit e refl);
         bad = ended-sound c room i Reason.BadSegment;
-        more = λ never from h. bytes-sound _;
-        last = λ never from h. ended-sound (withBytes c _) room (bytes-sound _) Reason.Complete;
+        more = λ never from h. bytes-sound _ h;
+        last = λ never from h. ended-sound (withBytes c _) room (bytes-sound _ h) Reason.Complete;
         full = λ never. tt;
       }
 
 module _ (c : Connection) (room : Bytes) (i : Consistent c room) (seq : SequenceLayerHeader) (cmd : SdoCommand) (payload : Bytes) where
   cleared-sound : (last : ℕ) → last < 64 → Consistent (cleared c last) room
-  cleared-sound last h = record { send = i .send; last = h; waits = tt; within = i .within; held = i .held; ends = i .ends }
+  cleared-sound last h =
+      record {
+        send = i .send;
+        last = h;
+        waits = tt;
+        repeats = tt;
+        within = i .within;
+        held = i .held;
+        loads = i .loads;
+        brings = i .brings;
+        ends = i .ends;
+      }
 
   -- with the room as it was; the bytes that are stored leave its length
   in-room : TakenSound room (replied (replyOf seq cmd payload c room))

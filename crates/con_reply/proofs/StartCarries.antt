@@ -30,6 +30,7 @@ use Rattle.connection.specs.Types.{
   SdoJob,
 }
 use Rattle.con_reply.proofs.JobCarried.{Aim, Carried, Carries, NoMore, loaded, rest}
+use Rattle.con_reply.proofs.StepSound.{not-downloading}
 use Rattle.laws.proofs.Choices.{decided, either}
 
 -- an entry takes bytes, so that there are no more entries than bytes
@@ -95,7 +96,17 @@ module _ (job : Job) (room : Bytes) (x : LoadedTransfer) (k : DcfCursor) (known 
         carries = carried;
         runs = refl;
         consistent =
-            record { send = omega arith; last = omega arith; waits = tt; within = within; held = held; ends = refl };
+            record {
+              send = omega arith;
+              last = omega arith;
+              waits = tt;
+              repeats = tt;
+              within = within;
+              held = held;
+              loads = not-downloading State.Opening refl x;
+              brings = omega arith;
+              ends = refl;
+            };
       }
     where
       held : length (bytesOf job) ≤ length (placed room 0 (bytesOf job))

@@ -1,5 +1,5 @@
--- Ask and tick keep what is carried. What ask gives is the next part of the loaded transfer, as long as its segment size says; and where
--- nothing is loaded any more, the job ends as demand 3 asks. Nothing that tick changes matters.
+-- Ask keeps what is carried: what it gives is the next part of the loaded transfer; and where nothing is loaded any more, the job ends as demand 3
+-- asks.
 use Prim.Native.Nat.{ℕ, _+_, _-_, _≤_}
 use native.Mathlib.Omega.{arith}
 use mathlib.Core.Path.{_≡_, refl, sym, _∙_, ap, subst}
@@ -9,31 +9,25 @@ use lib.ListN.{length, take, drop}
 use lib.Seq.{take-add}
 use borrow.Author.Tests.{eqb-true, eqb-false}
 use Rattle.codec.specs.Bytes.{Bytes}
-use Rattle.connection.proofs.TurnView.{AskView, Given, TickView, again, ask-view, early, ends, first, gives, late, later, never, next, opening, over, reading, silent, tick-view}
-use Rattle.connection.specs.Ask.{askOf, finish, quiet}
+use Rattle.connection.proofs.TurnView.{Given, first, later, next, opening, reading}
+use Rattle.connection.specs.Ask.{finish}
 use Rattle.con_reply.specs.Delivery.{withPart, longer, ForEnd}
-use Rattle.con_reply.specs.Sent.{AllSized, Sized, sentOf}
+use Rattle.con_reply.specs.Sent.{sentOf}
 use Rattle.con_rec.specs.Parts.{wire, total, most, limit, firstKind, laterKind}
-use Rattle.con_rec.specs.Record.{ended}
-use Rattle.connection.specs.Tick.{tickOf}
 use Rattle.connection.specs.Types.{
   DcfCursor,
   LoadedTransfer,
-  Now,
-  Outcome,
   Outgoing,
   PendingRead,
   Reason,
   SdoClientConnection as Connection,
   SdoClientConnectionState as State,
   Segmentation,
-  Sends,
-  Stepped,
   Transfer,
 }
-use Rattle.con_reply.proofs.JobCarried.{Aim, Carried, Carries, Asked, Ticked, beginning, goes-on, joinedBy, leave, over as over-by}
+use Rattle.con_reply.proofs.JobCarried.{Aim, Carried, Carries, goes-on, joinedBy}
 use Rattle.laws.proofs.Choices.{decided, either}
-use Rattle.con_rec.proofs.Wires.{wire-same, part-length}
+use Rattle.con_rec.proofs.Wires.{wire-same}
 
 -- ---- pieces
 longer-last : (l : List Bytes) (x p : Bytes) → longer (l ++ (x ∷ [])) p ≡ l ++ ((x ++ p) ∷ [])
@@ -54,19 +48,15 @@ never-reads e = let z : _≡_ {A = ℕ} 0 1 = cc in omega arith
 
 module _ (a : Aim) (got : List Bytes) where
   -- ---- nothing is loaded: all was sent
-  ask-ended : (c : Connection)
+  pub finished : (c : Connection)
       → Carried a got State.Established LoadedTransfer.Unloaded (c .job .offset) (c .job .cursor) (c .job .delivered)
       (c .job .«pending_read») (c .job .size)
-      → Asked a got (quiet (ended c (finish (c .job .cursor .left))))
-  unfolding Asked
-  ask-ended c j = (
-    over-by a got c (finish (c .job .cursor .left))
-        (decided (λ (why : Reason). ForEnd (a .entries) (a .count) got why (c .job .delivered)) (eqb (c .job .cursor .left) 0)
-        Reason.Complete Reason.Cut
-        (λ h. (whole, number, rw all (omega (arith, j .counted, eqb-true (c .job .cursor .left) 0 h))))
-        (λ h. (whole, number, λ z. omega (arith, j .counted, eqb-false (c .job .cursor .left) 0 h, ap length all)))),
-    tt,
-  )
+      → ForEnd (a .entries) (a .count) got (finish (c .job .cursor .left)) (c .job .delivered)
+  finished c j =
+      decided (λ (why : Reason). ForEnd (a .entries) (a .count) got why (c .job .delivered)) (eqb (c .job .cursor .left) 0)
+      Reason.Complete Reason.Cut
+      (λ h. (whole, number, rw all (omega (arith, j .counted, eqb-true (c .job .cursor .left) 0 h))))
+      (λ h. (whole, number, λ z. omega (arith, j .counted, eqb-false (c .job .cursor .left) 0 h, ap length all)))
     where
       all : a .entries ≡ j .before
       all = rw (j .known, j .none) (append-nil (j .before))
@@ -96,55 +86,15 @@ module _ (a : Aim) (got : List Bytes) where
   later-sent t m offset k delivered read size j =
       goes-on _ _ (offset + m) j tt (rw (later-part, in-room j, j .joined, longer-last, take-add))
 
-  -- such a part has the length that it says
-  sized : {s : State} {t : Transfer} {offset : ℕ} {k : DcfCursor} {delivered : ℕ} {read : PendingRead} {size : ℕ} (from n : ℕ)
-      → n ≤ total t - from → Carried a got s (LoadedTransfer.Loaded t) offset k delivered read size
-      → length (take n (drop from (wire (a .room) t))) ≡ n
-  sized {t} from n h j = rw (in-room j) (part-length (a .job) t from n (j .within) h)
-
   -- ---- ask
-  -- what is carried after a command, and that the command has the length that it says
-  sent : (c : Connection) → Carries a got c → {s : State} {m : ℕ} {o : Outgoing} → Given c s m o
+  -- what is carried after a command
+  pub sent : (c : Connection) → Carries a got c → {s : State} {m : ℕ} {o : Outgoing} → Given c s m o
       → Carried a (joinedBy got (sentOf (a .room) o ∷ [])) s (c .job .loaded) m (c .job .cursor) (c .job .delivered) (c .job .«pending_read»)
       (c .job .size)
-      × Sized (a .room) (Sends.Gives o)
-  sent c i (opening f e) = (rw e at i, (refl, omega arith))
+  sent c i (opening f e) = rw e at i
   sent c i (first {t} f e l) =
-      let j : Carried a got State.Established (LoadedTransfer.Loaded t) _ _ _ _ _ = rw (e, l) at i in
-      (rw l (first-sent t _ _ _ _ _ _ j), (sized 0 _ (omega arith) j, omega arith))
+      let j : Carried a got State.Established (LoadedTransfer.Loaded t) _ _ _ _ _ = rw (e, l) at i in rw l (first-sent t _ _ _ _ _ _ j)
   sent c i (reading f e l p) = let z : PendingRead.Read _ _ ≡ PendingRead.NoRead = sym p ∙ i .writes in absurd (never-reads z)
   sent c i (next f e) = absurd (rw e at (i .sending))
   sent c i (later {t} f e l) =
-      let j : Carried a got State.DownloadInProgress (LoadedTransfer.Loaded t) _ _ _ _ _ = rw (e, l) at i in
-      (rw l (later-sent t _ _ _ _ _ _ j), (sized (c .job .offset) _ (omega arith) j, omega arith))
-
-  pub ask-kept : (c : Connection) (n : Now) → c .outcome ≡ Outcome.Running → Carries a got c → Asked a got (askOf c n)
-  unfolding Asked
-  ask-kept c n r i = go (ask-view c n)
-    where
-      go : {x : Stepped} → AskView c n x → Asked a got x
-      go (silent w) = (leave a got c r i, tt)
-      go (ends f e l p) = ask-ended c (rw (e, l) at i)
-      go (gives g h) = (leave a _ _ r (sent c i g .0), sent c i g .1)
-      go (late g h) = tt
-
-  -- what ask gives of such a job has its segment size as length, at most 1452
-  pub ask-sized : (c : Connection) (n : Now) → c .outcome ≡ Outcome.Running → Carries a got c → AllSized (a .room) (askOf c n)
-  unfolding Asked
-  ask-sized c n r i = go (askOf c n) (ask-kept c n r i)
-    where
-      go : (s : Stepped) → Asked a got s → AllSized (a .room) s
-      go (Stepped.Went s) h = h .1
-      go (Stepped.Refused r) h = tt
-
-  -- ---- tick
-  pub tick-kept : (c : Connection) (n : Now) → c .outcome ≡ Outcome.Running → Carries a got c → Ticked a got (tickOf c n)
-  unfolding Ticked
-  tick-kept c n r i = go (tick-view c n)
-    where
-      go : {x : Stepped} → TickView c n x → Ticked a got x
-      go (never e) = leave a got c r i
-      go (early e h) = leave a got c r i
-      go (over e h k) = over-by a got c Reason.Timeout (beginning i)
-      go (again e h k l) = leave a got _ r i
-      go (late e h k l) = tt
+      let j : Carried a got State.DownloadInProgress (LoadedTransfer.Loaded t) _ _ _ _ _ = rw (e, l) at i in rw l (later-sent t _ _ _ _ _ _ j)

@@ -4,3 +4,4 @@ pub mod Delivery
 pub mod Jobs
 pub mod Reply
 pub mod Sent
+pub mod Uploaded

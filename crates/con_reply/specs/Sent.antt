@@ -1,8 +1,7 @@
--- What ask sends: a command as it goes out, its payload read from the room at that moment. Only what ask gives is logged: what tick gives
--- is a timeout repeat or an abort.
+-- What ask sends: a command as it goes out, its payload read from the room at that moment. What tick gives is a timeout repeat or an abort
+-- (`TickGives` in crates/theorems).
 use Prim.Native.Nat.{_≤_}
 use mathlib.Core.Path.{_≡_}
-use mathlib.Core.List.{List, [], _∷_}
 use lib.ListN.{length}
 use Rattle.codec.specs.Bytes.{Bytes}
 use Rattle.con_rec.specs.Commands.{commandOf}
@@ -23,10 +22,6 @@ sentOf room o =
       kind = commandOf o .header .segmentation;
       payload = payloadOf room o;
     }
-
-abbrev pub logged : Bytes → Sends → List Sent
-logged room (Sends.Gives o) = sentOf room o ∷ []
-logged room Sends.Silent = []
 
 -- a payload is as long as its command's segment size says, at most 1452 bytes
 abbrev pub Sized : Bytes → Sends → Type 0

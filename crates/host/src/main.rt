@@ -1,6 +1,11 @@
 // A host of the manager: what a panel programmer copies. It owns the clock, the wire, the store and the manager, and lends the manager to
 // each call (loan). Here the wire leads to a simulated cell (cell), and what happens is written to standard output (print), which is held
-// to the file stdout.
+// to the file stdout. docs/CONTRIBUTING.md, "Your own host", has the steps of a copy under another name.
+//
+// WARNING. The flag bits of a command are the repository's (response 0x10, abort 0x20, segmentation x 64), not those of EPSG DS 301
+// (0x80, 0x40, x 16). A node that follows EPSG DS 301 aborts with flags C0; the client reads these as Complete without the abort mark, so that
+// a write which the node refused ends Complete. docs/DIFFERENCES.md says what a host at such a node has to do. The cell here has the
+// repository's bits.
 use codec::octets::part;
 use con_rec::Deadline;
 use con_rec::Now;

@@ -1,6 +1,6 @@
 -- The table (document 01, "Which shape goes where"): eight connections in an array inside the manager's value, beside count and transaction
 -- counter. The held ones are the first `count`, ascending by node; the rest are blank. Every definition speaks of the list of those held.
-use Prim.Native.Nat.{ℕ, zero, suc, _+_, _-_, _*_, _≤_, min}
+use Prim.Native.Nat.{ℕ, zero, suc, _-_, _*_, _≤_, min}
 use mathlib.Core.Path.{_≡_}
 use mathlib.Core.Bool.{Bool, true, false}
 use mathlib.Core.List.{List, [], _∷_, _++_}

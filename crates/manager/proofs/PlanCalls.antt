@@ -1,7 +1,7 @@
 -- A plan, carried out, is the call: of a start and a reply by definition, of a tick or an ask because the connections that rest are left as they are
 -- and give nothing, so that the walk goes by the first that does not.
 use Prim.Native.Nat.{ℕ, suc, _<_}
-use mathlib.Core.Path.{_≡_, refl, sym, ap}
+use mathlib.Core.Path.{_≡_, refl, ap}
 use mathlib.Core.Bool.{Bool, true, false}
 use mathlib.Core.List.{List, [], _∷_}
 use lib.Dec.{eqb, ltb}

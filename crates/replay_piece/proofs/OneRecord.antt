@@ -30,7 +30,7 @@ use Rattle.replay_piece.specs.Types.{Change, Done, Entry, Outcome, Param
 use Rattle.replay_piece.proofs.PieceLeft.{Going, going-on, going-stops, part-length}
 
 -- a request leaves a neat manager neat
-granted-neat : (m : SdoClientManager) → Neat m → (store output : Bytes) (x : Request) → Neat (granted m store output x .done .manager)
+pub granted-neat : (m : SdoClientManager) → Neat m → (store output : Bytes) (x : Request) → Neat (granted m store output x .done .manager)
 granted-neat m neat store output (calls x) = call-neat m neat store output x
 granted-neat m neat store output (answers a) = neat
 

@@ -10,16 +10,11 @@ use Rattle.laws.specs.Pick.{pick}
 use Rattle.codec.specs.Bytes.{Bytes, placed}
 use Rattle.man_table.specs.Sweep.{noEnd, running}
 use Rattle.man_table.specs.Table.{live, tableOf}
-use Rattle.replay_line.specs.Line.{lineOf, mostLine}
+use Rattle.replay_line.specs.Line.{mostLine}
 use Rattle.manager.specs.Calls.{After}
-use Rattle.replay_record.specs.Request.{Asked, granted, recordAsks}
+use Rattle.replay_record.specs.Request.{Asked}
 use Rattle.replay_piece.specs.Types.{Done, Ends, Parameter, Progress, Reason, Run, SdoClientManager}
-
-abbrev pub recordSize : ℕ
-recordSize = 32
-
-abbrev pub mostRecords : ℕ
-mostRecords = 65535
+use Rattle.replay_piece.specs.Whole.{State, asked, line, mostRecords, recordSize, result}
 
 -- where a replay stands: manager and progress, the store, the gather's bytes, the output, the text
 pub record Stand : Type 0 where
@@ -76,29 +71,30 @@ abbrev pub stops : Stand → Bool
 stops s =
     pick (eqb (s .run .progress .number) mostRecords) true (ltb (length (s .text)) (s .run .progress .text + mostLine))
 
+-- what goes from record to record, as the whole says it
+abbrev pub stateOf : Stand → State
+stateOf s =
+    record {
+      manager = s .run .manager;
+      store = s .store;
+      gathered = s .run .progress .gathered;
+      gather = s .gather;
+      output = s .output;
+      number = s .run .progress .number;
+    }
+
 module _ (timeout retries : Parameter) where
-  -- a record: what it asks for, what comes of that, and its line
-  abbrev pub askedBy : Stand → Bytes → Asked
-  askedBy s b = recordAsks (s .run .progress .gathered) b timeout retries (s .gather)
-
-  abbrev pub callOf : Stand → Bytes → After
-  callOf s b = granted (s .run .manager) (s .store) (s .output) (askedBy s b .request)
-
-  abbrev pub lineFor : Stand → Bytes → Bytes
-  lineFor s b =
-      lineOf (s .run .progress .number + 1) b (callOf s b .done .answer) (callOf s b .done .ends) (callOf s b .output)
-
+  -- a record, and its line behind the text
   unfoldable pub afterRecord : Stand → Bytes → Stand
   afterRecord s b =
+      let a : Asked = asked timeout retries (stateOf s) b in
+      let d : After = result timeout retries (stateOf s) b in
       record {
-        run =
-            runWith (callOf s b .done)
-            (counted (s .run .progress) (askedBy s b .gathered) (length b))
-            (lineFor s b);
-        store = callOf s b .store;
-        gather = askedBy s b .gather;
-        output = callOf s b .output;
-        text = placed (s .text) (s .run .progress .text) (lineFor s b);
+        run = runWith (d .done) (counted (s .run .progress) (a .gathered) (length b)) (line timeout retries (stateOf s) b);
+        store = d .store;
+        gather = a .gather;
+        output = d .output;
+        text = placed (s .text) (s .run .progress .text) (line timeout retries (stateOf s) b);
       }
 
   -- up to so many records, one after another

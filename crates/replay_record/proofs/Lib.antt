@@ -3,4 +3,5 @@ pub mod GatherMore
 pub mod OperationNumber
 pub mod ReadRecord
 pub mod RecordPlan
+pub mod ReplayRefuses
 pub mod ReplyRecord

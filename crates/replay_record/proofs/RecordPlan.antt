@@ -12,7 +12,7 @@ use Rattle.manager.specs.Plan.{planDone, planOf}
 use Rattle.replay_record.specs.Gather.{alreadyGathered, gatherSize}
 use Rattle.replay_record.specs.Record.{recordRead}
 use Rattle.replay_record.specs.Request.{Asked, Request, answers, askedPlan, calls, granted, readAsks, recordAsks, refusesWith, requestPlan, useCall}
-use Rattle.replay_record.specs.Types.{Now, Parameter, Plan, Record, RecordPlan, RecordRead, Refusal, SdoClientManager, Use}
+use Rattle.replay_record.specs.Types.{Now, Parameter, Record, RecordPlan, RecordRead, Refusal, SdoClientManager, Use}
 
 -- the four parts, by what the record is found to ask for
 module _ (m : SdoClientManager) (store output : Bytes) where

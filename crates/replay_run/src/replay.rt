@@ -6,6 +6,7 @@ use crate::state::print_state;
 use crate::state::upload_before;
 use codec::octets::part;
 use con_rec::numbers::at_most;
+use libc::STDERR_FILENO;
 use libc::STDIN_FILENO;
 use libc::STDOUT_FILENO;
 use man_table::types::STORE_SIZE;
@@ -44,19 +45,28 @@ fn first(b: &[u8; BUFFER_SIZE], n: usize) -> &[u8] {
     part(b, 0, n)
 }
 
-fn write_out(text: &[u8; BUFFER_SIZE], n: usize) {
-    io::write_all(STDOUT_FILENO, part(text, 0, n));
+// Whether the first bytes of the text went out. A program has no exit status here, so a failure is told on standard error.
+fn write_out(text: &[u8; BUFFER_SIZE], n: usize) -> bool {
+    if io::write_all(STDOUT_FILENO, part(text, 0, n)) {
+        return true;
+    }
+    io::write_all(STDERR_FILENO, b"replay: cannot write to standard output\n");
+    false
 }
 
-// All text goes out.
+// All text goes out. Where it cannot, the run is as one that reads nothing more.
 fn written(run: Run, text: &[u8; BUFFER_SIZE]) -> Run {
     let manager = run.manager;
     let progress = run.progress;
-    write_out(text, progress.text);
+    let mut read = progress.read;
+    if !write_out(text, progress.text) {
+        read = 0;
+    }
     Run {
         manager,
         progress: Progress {
             text: 0,
+            read,
             ..progress
         },
     }
@@ -94,7 +104,10 @@ fn one_shown(
         return after;
     }
     let shown = written(after, text);
-    print_state(manager, upload, progress.complete, store);
+    let now = shown.progress;
+    if now.read != 0 {
+        print_state(manager, upload, progress.complete, store);
+    }
     shown
 }
 
@@ -133,7 +146,7 @@ fn piece_by(
         let left = input.len() - at;
         r = some(r, p, part(input, at, left), store, gather, output, text);
         let progress = r.progress;
-        // none is read where 65,535 were
+        // none is read where 65,535 were, or the text could not be written
         if progress.read == 0 {
             break;
         }
@@ -165,13 +178,14 @@ fn run_by(p: Parameters) {
             &mut output,
             &mut text,
         );
-        if n < BUFFER_SIZE {
+        let progress = run.progress;
+        if n < BUFFER_SIZE || progress.read == 0 {
             break;
         }
         pieces += 1;
     }
-    let progress = run.progress;
-    write_out(&text, progress.text);
+    let last = run.progress;
+    write_out(&text, last.text);
 }
 
 // Replays standard input; timeout and retries are absent.

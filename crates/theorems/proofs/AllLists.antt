@@ -40,10 +40,6 @@ module _ {A : Type 0} where
     all-by Q f [] a = tt
     all-by Q f (x ∷ l) a = (f x (a .0), all-by Q f l (a .1))
 
-  pub all-both : (P Q : A → Type 0) (l : List A) → All P l → All Q l → All (λ (x : A). P x × Q x) l
-  all-both P Q [] a b = tt
-  all-both P Q (x ∷ l) a b = ((a .0, b .0), all-both P Q l (a .1) (b .1))
-
   module _ (R : A → A → Type 0) (same : (x : A) → R x x) where
     pub each-same : (l : List A) → Each R l l
     each-same [] = tt

@@ -19,6 +19,7 @@ use Rattle.man_table.specs.Sweep.{endsIn, endsOf, running}
 use Rattle.man_table.specs.Table.{blank, findIn, live, oneFurther, storeSize, tableOf, heldAt}
 use Rattle.man_table.specs.Walk.{Walking, refused, stopped, through, walkList}
 use Rattle.theorems.specs.Run.{reported}
+use Rattle.theorems.specs.Sound.{All}
 use Rattle.theorems.specs.Types.{
   Answer,
   Taken,
@@ -52,8 +53,7 @@ abbrev pub At : ℕ → List Connection → ℕ → Type 0
 At node l k = (getD l k blank .«target_node_id» ≡ node) × (k < length l)
 
 abbrev pub Absent : ℕ → List Connection → Type 0
-Absent node [] = Unit {0}
-Absent node (c ∷ l) = (c .«target_node_id» ≡ node → ⊥) × Absent node l
+Absent node l = All (λ (c : Connection). c .«target_node_id» ≡ node → ⊥) l
 
 abbrev pub FoundAs : ℕ → List Connection → Found → Type 0
 FoundAs node l (Found.At k) = At node l k
@@ -97,7 +97,8 @@ module _ (t : Turn) (m : Manager) (n : Now) (store output : Bytes) (P : Shown)
 
 -- ---- reply
 module _ (m : Manager) (node : ℕ) (seq : SequenceLayerHeader) (cmd : SdoCommand) (payload store output : Bytes) (P : Shown)
-    (leaves : (x : Answer) → P m store output x [])
+    (refuses : (r : Refusal) → P m store output (Answer.Refused r) [])
+    (unknown : Absent node (live m) → P m store output Answer.Nothing [])
     (answers : (k : ℕ) (d : Connection) → length store ≡ storeSize → At node (live m) k
     → replied (replyOf seq cmd payload (heldAt m k) (roomIn store (heldAt m k))) ≡ Taken.Connection d
     → P (tableOf (running (set (live m) k d)) (m .«next_transaction_id»))
@@ -107,8 +108,8 @@ module _ (m : Manager) (node : ℕ) (seq : SequenceLayerHeader) (cmd : SdoComman
   abbrev Replies : Effect → Type 0
   Replies e = Of P (carriedOut m e output)
 
-  left : (x : Answer) → Replies (record { change = same x; store = store })
-  left x = rw (same-done m x) (leaves x)
+  left : (x : Answer) → P m store output x [] → Replies (record { change = same x; store = store })
+  left x h = rw (same-done m x) h
 
   module _ (long : length store ≡ storeSize) (k : ℕ) (at : At node (live m) k) where
     answered : (d : Connection) (x : Decision) → replyOf seq cmd payload (heldAt m k) (roomIn store (heldAt m k)) ≡ x
@@ -124,10 +125,10 @@ module _ (m : Manager) (node : ℕ) (seq : SequenceLayerHeader) (cmd : SdoComman
         → Replies (replyBy x k (heldAt m k) payload store)
     decides (Decision.Keeps d) e = answered d (Decision.Keeps d) e refl
     decides (Decision.Stores d from) e = answered d (Decision.Stores d from) e refl
-    decides Decision.NoRoom e = left (Answer.Refused Refusal.NoRoom)
+    decides Decision.NoRoom e = left (Answer.Refused Refusal.NoRoom) (refuses Refusal.NoRoom)
 
   found : length store ≡ storeSize → (f : Found) → FoundAs node (live m) f → Replies (replyAt f m seq cmd payload store)
-  found long Found.Absent h = left Answer.Nothing
+  found long Found.Absent h = left Answer.Nothing (unknown h)
   found long (Found.At k) h = decides long k h (replyOf seq cmd payload (heldAt m k) (roomIn store (heldAt m k))) refl
 
   pub reply-by : Of P (called m store output (replies node seq cmd payload))
@@ -135,4 +136,4 @@ module _ (m : Manager) (node : ℕ) (seq : SequenceLayerHeader) (cmd : SdoComman
   reply-by =
       decided Replies (eqb (length store) storeSize) _ _
       (λ e. found (eqb-true _ _ e) (findIn node (live m)) (found-as node (live m)))
-      (λ e. left (Answer.Refused Refusal.WrongStore))
+      (λ e. left (Answer.Refused Refusal.WrongStore) (refuses Refusal.WrongStore))

@@ -1,18 +1,19 @@
--- A call that answers by its checks refuses exactly when the first cause that holds is that refusal's. And what a job's start answers,
--- by its checks.
+-- The manager's answers by their checks: the law of all answers, said of these; and what a job's start answers.
 use Prim.Native.Nat.{ℕ}
 use native.Mathlib.Omega.{arith}
-use mathlib.Core.Path.{_≡_, refl, sym, _∙_, ap, subst}
+use mathlib.Core.Path.{_≡_, refl}
 use mathlib.Core.Bool.{true, false}
-use mathlib.Core.List.{List, [], _∷_}
-use mathlib.Core.Logic.{_⊎_, inl, inr}
+use mathlib.Core.List.{List, _∷_}
+use mathlib.Core.Logic.{inl, inr}
 use lib.ListN.{length}
+use Rattle.laws.proofs.Checks.{Answers as AnswersBy, exactly as exactly-by}
+use Rattle.laws.specs.Checks.{Check, Exactly, check}
 use Rattle.codec.specs.Bytes.{Bytes}
 use Rattle.connection.proofs.StartView.{begun, busy, full, late, short}
 use Rattle.connection.specs.Start.{isIdle}
 use Rattle.manager.specs.Calls.{Job, startJob}
 use Rattle.man_table.specs.Table.{roomSize}
-use Rattle.theorems.specs.Causes.{Check, First, check, jobChecks}
+use Rattle.theorems.specs.Causes.{jobChecks}
 use Rattle.theorems.specs.Types.{Answer, Taken, Now, Refusal, SdoClientConnection as Connection}
 use Rattle.theorems.proofs.JobStarts.{JobView, job-view}
 
@@ -22,34 +23,11 @@ Unrefused Answer.Nothing = Unit {0}
 Unrefused (Answer.Sent s) = Unit {0}
 Unrefused (Answer.Refused r) = ⊥
 
--- checks made in order: the first cause that holds gives its refusal, and where none holds nothing is refused
-abbrev pub Answers : List Check → Answer → Type 0
-Answers [] x = Unrefused x
-Answers (c ∷ l) x = (c .cause × (x ≡ Answer.Refused (c .refusal))) ⊎ ((c .cause → ⊥) × Answers l x)
+abbrev pub Answers : List (Check Refusal) → Answer → Type 0
+Answers = AnswersBy Answer.Refused Unrefused
 
--- the refusal of an answer, or another one where there is none
-abbrev refusalOf : Answer → Refusal → Refusal
-refusalOf Answer.Nothing other = other
-refusalOf (Answer.Sent s) other = other
-refusalOf (Answer.Refused r) other = r
-
-pub exactly : (l : List Check) (x : Answer) → Answers l x → (r : Refusal)
-    → (x ≡ Answer.Refused r → First l r) × (First l r → x ≡ Answer.Refused r)
-exactly [] x a r = (λ e. subst Unrefused e a, λ h. absurd h)
-exactly (c ∷ l) x (inl a) r = (
-  λ e. inl (a .0, ap (λ (y : Answer). refusalOf y r) (sym (a .1) ∙ e)),
-  back,
-)
-  where
-    back : First (c ∷ l) r → x ≡ Answer.Refused r
-    back (inl h) = a .1 ∙ ap Answer.Refused (h .1)
-    back (inr h) = absurd (h .0 (a .0))
-exactly (c ∷ l) x (inr a) r =
-    let rest = exactly l x (a .1) r in (λ e. inr (a .0, rest .0 e), back (rest .1))
-  where
-    back : (First l r → x ≡ Answer.Refused r) → First (c ∷ l) r → x ≡ Answer.Refused r
-    back rest (inl h) = absurd (a .0 (h .0))
-    back rest (inr h) = rest (h .1)
+pub exactly : (l : List (Check Refusal)) (x : Answer) → Answers l x → Exactly Answer.Refused l x
+exactly = exactly-by Answer.Refused Unrefused (λ r u. u) (λ r s e. cc)
 
 -- ---- a job's start
 abbrev pub answerOf : Taken → Answer

@@ -11,7 +11,7 @@ use Rattle.man_table.specs.Sweep.{endsIn, withEnd}
 use Rattle.man_table.specs.Table.{live, heldAt}
 use Rattle.man_table.specs.Walk.{Walking, stopped, through, walkList}
 use Rattle.theorems.specs.Reports.{Ascending, Reports}
-use Rattle.theorems.specs.Run.{Host, reached, reported}
+use Rattle.theorems.specs.Run.{Host, Lends, another, made, own, reached, reported}
 use Rattle.theorems.specs.Sound.{All, Before, Ordered, Reached, Sound}
 use Rattle.theorems.specs.Types.{End, Now, Outcome, SdoClientConnection as Connection, SdoClientManager as Manager, Turn}
 use Rattle.theorems.proofs.AllLists.{Each}
@@ -22,6 +22,7 @@ use Rattle.theorems.proofs.AllReached.{all-sound}
 use Rattle.theorems.proofs.SoundCalls.{few-set, ordered-set}
 use Rattle.theorems.proofs.SoundTables.{each-length}
 use Rattle.theorems.proofs.StartBy.{start-by}
+use Rattle.theorems.proofs.WrongStore.{wrong-store}
 use Rattle.theorems.proofs.WalkSteps.{WalkBy, walk-same}
 
 -- ---- the ends of a table in order
@@ -73,7 +74,7 @@ module _ (m : Manager) (store : Bytes) (sound : Sound m store) where
       turn-by t m n store output Reported (λ r. (omega arith, tt)) (λ l long fits e. told l (walked t n (through l) e))
       (λ k o l long fits e. told l (walked t n (stopped k o l) e .0))
   call-told output (replies node seq cmd payload) =
-      reply-by m node seq cmd payload store output Reported (λ x. (omega arith, tt))
+      reply-by m node seq cmd payload store output Reported (λ r. (omega arith, tt)) (λ none. (omega arith, tt))
       (λ k d long at e. (
         omega (arith, ends-few (set (live m) k d), few-set m store sound k d),
         ends-ascend (set (live m) k d)
@@ -82,6 +83,11 @@ module _ (m : Manager) (store : Bytes) (sound : Sound m store) where
 
 pub reports : Reports
 unfolding Reports Reached
-reports lent earlier x =
-    let host : Host = reached lent earlier in
-    call-told (host .manager) (host .store) (all-sound lent earlier) (x .output) (x .call)
+reports lent earlier x = go (x .lends)
+  where
+    host : Host
+    host = reached lent earlier
+
+    go : (l : Lends) → Told (reported (made host (record { call = x .call; lends = l; output = x .output })))
+    go own = call-told (host .manager) (host .store) (all-sound lent earlier) (x .output) (x .call)
+    go (another store differs) = rw (wrong-store (host .manager) store (x .output) (x .call) differs) (omega arith, tt)

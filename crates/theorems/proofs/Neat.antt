@@ -63,5 +63,5 @@ module _ (m : Manager) (neat : Neat m) (store output : Bytes) where
       turn-by t m n store output Leaves (λ r. neat) (λ l long fits e. swept-neat l (m .«next_transaction_id»))
       (λ k o l long fits e. swept-neat l (m .«next_transaction_id»))
   call-neat (replies node seq cmd payload) =
-      reply-by m node seq cmd payload store output Leaves (λ x. neat)
+      reply-by m node seq cmd payload store output Leaves (λ r. neat) (λ none. neat)
       (λ k d long at e. swept-neat (set (live m) k d) (m .«next_transaction_id»))

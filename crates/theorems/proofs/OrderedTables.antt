@@ -78,9 +78,9 @@ after-here node c (x ∷ l) e a s =
     )
 
 pub ordered-tracks : (node : ℕ) (l : List Connection) → Ordered l → All (λ (x : Connection). Slotted (x .room)) l → (k : ℕ) → At node l k
-    → Tracks node (getD l k blank .room) (λ (c : Connection). Unit {0}) l
+    → Tracks node (getD l k blank .room) (λ (c : Connection). c ≡ getD l k blank) l
 ordered-tracks node [] o s k h = absurd (omega (arith, h .1))
-ordered-tracks node (c ∷ l) o s zero h = here (h .0) refl tt (after-here node c l (h .0) (o .0) (s .1))
+ordered-tracks node (c ∷ l) o s zero h = here (h .0) refl refl (after-here node c l (h .0) (o .0) (s .1))
 ordered-tracks node (c ∷ l) o s (suc k) h =
     let b : Before c (getD l k blank) = all-at (Before c) l k blank (omega (arith, h .1)) (o .0) in
     let ne : c .«target_node_id» ≡ node → ⊥ = λ f. omega (arith, f, b .0, h .0) in

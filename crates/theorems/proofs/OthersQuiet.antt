@@ -14,16 +14,17 @@ use Rattle.con_rec.specs.Record.{endWith}
 use Rattle.con_reply.specs.Reply.{replied, replyOf, roomAfter}
 use Rattle.con_reply.proofs.StoresWithin.{replied-room}
 use Rattle.laws.proofs.Choices.{either}
-use Rattle.manager.specs.Calls.{Job, numberOf, replies, roomIn, starts, withRoom}
-use Rattle.man_table.specs.Sweep.{running, unlessEnd}
+use Rattle.manager.specs.Calls.{Call, Job, called, numberOf, replies, roomIn, starts, turns, withRoom}
+use Rattle.man_table.specs.Sweep.{endsIn, running, unlessEnd, withEnd}
 use Rattle.man_table.specs.Table.{blank, freeRoom, insertAt, insertIn, live, roomSize, storeSize, tableOf, heldAt}
-use Rattle.theorems.specs.Quiet.{Holding, Leaves, QuietOthers, connection, holding, holdingIn}
-use Rattle.theorems.specs.Run.{Host, reached}
+use Rattle.theorems.specs.Quiet.{ForAnother, Holding, QuietOthers, connection, holding, holdingIn}
+use Rattle.theorems.specs.Run.{Host, Lends, another, next, own, reached}
 use Rattle.theorems.specs.Sound.{All, Reached, Sane, Slotted, Sound}
-use Rattle.theorems.specs.Types.{Taken, Now, Outcome, SdoClientConnection as Connection, SdoClientManager as Manager, SdoCommand, SequenceLayerHeader}
+use Rattle.theorems.specs.Story.{endFor, gaveTo, none}
+use Rattle.theorems.specs.Types.{Answer, EndFound, Taken, Now, Outcome, Reason, SdoClientConnection as Connection, SdoClientManager as Manager, SdoCommand, SequenceLayerHeader}
 use Rattle.theorems.proofs.AllLists.{all-at, all-by, all-set}
 use Rattle.manager.proofs.WalkCalls.{live-table}
-use Rattle.theorems.proofs.Cases.{Absent, At, Shown, reply-by}
+use Rattle.theorems.proofs.Cases.{Absent, At, Of, Shown, reply-by}
 use Rattle.theorems.proofs.NodeAndRoom.{Same, replied-same}
 use Rattle.theorems.proofs.FreeRooms.{free-nobodys, free-slotted}
 use Rattle.theorems.proofs.JobStarts.{started-room, started-same}
@@ -32,6 +33,7 @@ use Rattle.theorems.proofs.AllReached.{all-sound}
 use Rattle.theorems.proofs.Rooms.{apart, room-length}
 use Rattle.theorems.proofs.StartBy.{fresh, start-by, startOn, storeWith}
 use Rattle.theorems.proofs.Tracked.{Other, Tracks, here, there}
+use Rattle.theorems.proofs.WrongStore.{nothing-happened}
 
 -- ---- another node's place in the list
 module _ (node other : ℕ) (differ : other ≡ node → ⊥) (store : Bytes) where
@@ -56,6 +58,13 @@ module _ (node other : ℕ) (differ : other ≡ node → ⊥) (store : Bytes) wh
       (ltb (d .«target_node_id») (c .«target_node_id»)) 0 _
       (rw (passed d e)) (ap (λ (x : Holding). pick (eqb (c .«target_node_id») other) (connection c (roomIn store c)) x) rest)
 
+-- one that ended is not of a node that runs
+ended-other : (c : Connection) (other : ℕ) → (c .«target_node_id» ≡ other → c .outcome ≡ Outcome.Running) → (why : Reason)
+    → c .outcome ≡ Outcome.Ended why → c .«target_node_id» ≡ other → ⊥
+ended-other c other runs why e f =
+    let z : false ≡ true = ap isEnded (sym (runs f)) ∙ ap isEnded e in
+    let y : _≡_ {A = ℕ} 0 1 = cc in absurd (omega arith)
+
 -- the sweep removes none of a node that runs
 look-running : (other : ℕ) (store : Bytes) (l : List Connection)
     → All (λ (c : Connection). c .«target_node_id» ≡ other → c .outcome ≡ Outcome.Running) l
@@ -64,16 +73,23 @@ unfolding pick
 look-running other store [] a = refl
 look-running other store (c ∷ l) a = go (c .outcome) refl (look-running other store l (a .1))
   where
-    ended : (why : Outcome) → isEnded why ≡ true → c .outcome ≡ why → c .«target_node_id» ≡ other → ⊥
-    ended why h e f =
-        let z : false ≡ true = ap isEnded (sym (a .0 f)) ∙ ap isEnded e ∙ h in
-        let y : _≡_ {A = ℕ} 0 1 = cc in absurd (omega arith)
-
     go : (x : Outcome) → c .outcome ≡ x → holdingIn other (running l) store ≡ holdingIn other l store
         → holdingIn other (unlessEnd (endWith c x) c (running l)) store
         ≡ pick (eqb (c .«target_node_id») other) (connection c (roomIn store c)) (holdingIn other l store)
     go Outcome.Running e r = ap (λ (x : Holding). pick (eqb (c .«target_node_id») other) (connection c (roomIn store c)) x) r
-    go (Outcome.Ended why) e r = rw (ne-eqb (c .«target_node_id») other (ended (Outcome.Ended why) refl e)) r
+    go (Outcome.Ended why) e r = rw (ne-eqb (c .«target_node_id») other (ended-other c other (a .0) why e)) r
+
+-- and reports no end of it
+ends-running : (other : ℕ) (l : List Connection)
+    → All (λ (c : Connection). c .«target_node_id» ≡ other → c .outcome ≡ Outcome.Running) l → endFor other (endsIn l) ≡ EndFound.Running
+unfolding pick
+ends-running other [] a = refl
+ends-running other (c ∷ l) a = go (c .outcome) refl (ends-running other l (a .1))
+  where
+    go : (x : Outcome) → c .outcome ≡ x → endFor other (endsIn l) ≡ EndFound.Running
+        → endFor other (withEnd (endWith c x) (endsIn l)) ≡ EndFound.Running
+    go Outcome.Running e r = r
+    go (Outcome.Ended why) e r = rw (ne-eqb (c .«target_node_id») other (ended-other c other (a .0) why e)) r
 
 -- the store changed elsewhere
 look-store : (other : ℕ) (store after : Bytes) (l : List Connection)
@@ -116,50 +132,56 @@ module _ (m : Manager) (store : Bytes) (sound : Sound m store) (node other : ℕ
   held-others : (k : ℕ) → At node (live m) k
       → All (λ (c : Connection). (c .«target_node_id» ≡ node → ⊥) → Other node (heldAt m k .room) c) (live m)
   held-others k at =
-      others-of node (heldAt m k .room) (λ (c : Connection). Unit {0}) (ordered-tracks node (live m) (sound .ordered) slots k at)
+      others-of node (heldAt m k .room) _ (ordered-tracks node (live m) (sound .ordered) slots k at)
 
   slot-at : (k : ℕ) → At node (live m) k → Slotted (heldAt m k .room)
   slot-at k at = all-at (λ (c : Connection). Slotted (c .room)) (live m) k blank (at .1) slots
 
   new-others : Absent node (live m) → length (live m) < 8
       → All (λ (c : Connection). (c .«target_node_id» ≡ node → ⊥) → Other node (freeRoom (live m)) c) (live m)
-  new-others none few =
+  new-others unheld few =
       all-by (Other node (freeRoom (live m))) (λ (c : Connection). (c .«target_node_id» ≡ node → ⊥) → Other node (freeRoom (live m)) c)
-      (λ x h ne. h) (live m) (nowhere node (freeRoom (live m)) (live m) none (free-nobodys (live m) few) slots)
+      (λ x h ne. h) (live m) (nowhere node (freeRoom (live m)) (live m) unheld (free-nobodys (live m) few) slots)
 
-  -- what is held is told by the list and the store that a call leaves
-  abbrev Quiet : Shown
-  Quiet k after out x es = holding k after other ≡ holding m store other
+  -- what is held for the other node is told by the list and the store that a call leaves; it is given nothing, and no end of it is reported
+  abbrev pub Quiet : Shown
+  Quiet k after out x es = (holding k after other ≡ holding m store other) × (gaveTo other out x ≡ none) × (endFor other es ≡ EndFound.Running)
 
   tells : (l : List Connection) (t : ℕ) (after : Bytes) → holdingIn other l after ≡ holdingIn other (live m) store
       → holding (tableOf l t) after other ≡ holding m store other
   tells l t after e = ap (λ (k : List Connection). holdingIn other k after) (live-table l t) ∙ e
 
   -- ---- reply
-  pub reply-quiet : (seq : SequenceLayerHeader) (cmd : SdoCommand) (payload : Bytes)
-      → Leaves (record { manager = m; store = store }) (replies node seq cmd payload) other
-  reply-quiet seq cmd payload = reply-by m node seq cmd payload store [] Quiet (λ x. refl) answers
-    where
-      left : ℕ → Bytes
-      left k = roomAfter (replyOf seq cmd payload (heldAt m k) (roomIn store (heldAt m k))) payload (roomIn store (heldAt m k))
+  module _ (seq : SequenceLayerHeader) (cmd : SdoCommand) (payload : Bytes) where
+    abbrev after : ℕ → Bytes
+    after k =
+        withRoom store (heldAt m k)
+        (roomAfter (replyOf seq cmd payload (heldAt m k) (roomIn store (heldAt m k))) payload (roomIn store (heldAt m k)))
 
-      answers : (k : ℕ) (d : Connection) → length store ≡ storeSize → At node (live m) k
-          → replied (replyOf seq cmd payload (heldAt m k) (roomIn store (heldAt m k))) ≡ Taken.Connection d
-          → holding (tableOf (running (set (live m) k d)) (m .«next_transaction_id»)) (withRoom store (heldAt m k) (left k)) other
-          ≡ holding m store other
-      answers k d long at e =
-          let c : Connection = heldAt m k in
-          let s : Same c d = replied-same seq cmd payload c (roomIn store c) d e in
-          let own : d .«target_node_id» ≡ node = s .0 ∙ at .0 in
-          tells (running (set (live m) k d)) (m .«next_transaction_id») (withRoom store c (left k))
-          (look-running other (withRoom store c (left k)) (set (live m) k d)
-          (all-set (λ (x : Connection). x .«target_node_id» ≡ other → x .outcome ≡ Outcome.Running) (live m) k d
-          (λ f. absurd (differ (sym f ∙ own)))
-          (all-by (Sane store) (λ (x : Connection). x .«target_node_id» ≡ other → x .outcome ≡ Outcome.Running) (λ x h f. h .runs) (live m)
-          (sound .each)))
-          ∙ look-set node other differ (withRoom store c (left k)) (live m) k d at own
-          ∙ elsewhere long c (slot-at k at) (left k)
-          (replied-room seq cmd payload c (roomIn store c) ∙ room-length store long (c .room)) (held-others k at))
+    answers : (output : Bytes) (k : ℕ) (d : Connection) → length store ≡ storeSize → At node (live m) k
+        → replied (replyOf seq cmd payload (heldAt m k) (roomIn store (heldAt m k))) ≡ Taken.Connection d
+        → Quiet (tableOf (running (set (live m) k d)) (m .«next_transaction_id»)) (after k) output Answer.Nothing (endsIn (set (live m) k d))
+    answers output k d long at e =
+        let c : Connection = heldAt m k in
+        let s : Same c d = replied-same seq cmd payload c (roomIn store c) d e in
+        let own : d .«target_node_id» ≡ node = s .0 ∙ at .0 in
+        let run : All (λ (x : Connection). x .«target_node_id» ≡ other → x .outcome ≡ Outcome.Running) (set (live m) k d) =
+        all-set (λ (x : Connection). x .«target_node_id» ≡ other → x .outcome ≡ Outcome.Running) (live m) k d
+        (λ f. absurd (differ (sym f ∙ own)))
+        (all-by (Sane store) (λ (x : Connection). x .«target_node_id» ≡ other → x .outcome ≡ Outcome.Running) (λ x h f. h .runs) (live m)
+        (sound .each)) in (
+          tells (running (set (live m) k d)) (m .«next_transaction_id») (after k)
+              (look-running other (after k) (set (live m) k d) run
+              ∙ look-set node other differ (after k) (live m) k d at own
+              ∙ elsewhere long c (slot-at k at) _
+              (replied-room seq cmd payload c (roomIn store c) ∙ room-length store long (c .room)) (held-others k at)),
+          refl,
+          ends-running other (set (live m) k d) run,
+        )
+
+    pub reply-quiet : (output : Bytes) → Of Quiet (called m store output (replies node seq cmd payload))
+    reply-quiet output =
+        reply-by m node seq cmd payload store output Quiet (λ r. (refl, refl, refl)) (λ unheld. (refl, refl, refl)) (answers output)
 
   -- ---- start
   module _ (job : Job) (n : Now) where
@@ -177,27 +199,42 @@ module _ (m : Manager) (store : Bytes) (sound : Sound m store) (node other : ℕ
     enters : (d : Connection) → length store ≡ storeSize → Absent node (live m) → length (live m) < 8
         → startOn m job n store (fresh m node) ≡ Taken.Connection d
         → holding (tableOf (insertIn d (live m)) (numberOf m)) (storeWith job store (fresh m node)) other ≡ holding m store other
-    enters d long none few e =
+    enters d long unheld few e =
         let c : Connection = fresh m node in
         let s : Same c d = started-same job c d (numberOf m) n (roomIn store c) e in
         tells (insertIn d (live m)) (numberOf m) (storeWith job store c)
         (look-insert node other differ (storeWith job store c) (live m) d (s .0)
         ∙ elsewhere long c (free-slotted (live m)) _
-        (started-room job c d (numberOf m) n (roomIn store c) e ∙ room-length store long (c .room)) (new-others none few))
+        (started-room job c d (numberOf m) n (roomIn store c) e ∙ room-length store long (c .room)) (new-others unheld few))
 
-    pub start-quiet : Leaves (record { manager = m; store = store }) (starts node job n) other
-    start-quiet =
-        start-by m node job n store [] Quiet (λ r e. refl)
-        (λ r e k f. refl) again enters
-        (λ r e f none few.
-        tells (insertIn (fresh m node) (live m)) (numberOf m) store
-        (look-insert node other differ store (live m) (fresh m node) refl))
+    pub start-quiet : (output : Bytes) → Of Quiet (called m store output (starts node job n))
+    start-quiet output =
+        start-by m node job n store output Quiet (λ r e. (refl, refl, refl)) (λ r e k f. (refl, refl, refl))
+        (λ k d long at e. (again k d long at e, refl, refl)) (λ d long unheld few e. (enters d long unheld few e, refl, refl))
+        (λ r e f unheld few. (
+          tells (insertIn (fresh m node) (live m)) (numberOf m) store
+              (look-insert node other differ store (live m) (fresh m node) refl),
+          refl,
+          refl,
+        ))
+
+call-quiet : (m : Manager) (store output : Bytes) → Sound m store → (x : Call) (node : ℕ) → ForAnother node x
+    → holding (called m store output x .done .manager) (called m store output x .store) node ≡ holding m store node
+call-quiet m store output sound (starts k job n) node ne = start-quiet m store sound k node (λ e. ne (sym e)) job n output .0
+call-quiet m store output sound (turns t n) node ne = absurd ne
+call-quiet m store output sound (replies k seq cmd payload) node ne =
+    reply-quiet m store sound k node (λ e. ne (sym e)) seq cmd payload output .0
 
 pub quiet-others : QuietOthers
 unfolding QuietOthers Reached
-quiet-others lent earlier node other differ =
-    let host : Host = reached lent earlier in
-    let sound : Sound (host .manager) (host .store) = all-sound lent earlier in (
-      λ job now. start-quiet (host .manager) (host .store) sound node other differ job now,
-      λ seq cmd payload. reply-quiet (host .manager) (host .store) sound node other differ seq cmd payload,
-    )
+quiet-others lent earlier x node ne = go (x .lends)
+  where
+    host : Host
+    host = reached lent earlier
+
+    go : (l : Lends)
+        → let after : Host = next host (record { call = x .call; lends = l; output = x .output }) in
+        holding (after .manager) (after .store) node ≡ holding (host .manager) (host .store) node
+    go own = call-quiet (host .manager) (host .store) (x .output) (all-sound lent earlier) (x .call) node ne
+    go (another store differs) =
+        ap (λ (k : Host). holding (k .manager) (k .store) node) (nothing-happened host (x .call) store (x .output) differs)

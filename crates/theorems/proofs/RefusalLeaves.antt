@@ -1,14 +1,16 @@
--- What a refusal leaves, of any manager and store.
+-- What a refusal leaves, of any manager and store; and that a read leaves the store.
 use mathlib.Core.Path.{_≡_, refl, subst}
-use mathlib.Core.List.{[]}
+use mathlib.Core.List.{List, []}
 use Rattle.laws.specs.Pick.{pick}
 use Rattle.codec.specs.Bytes.{Bytes}
-use Rattle.manager.specs.Calls.{Call, called, replies, starts, turns}
+use Rattle.manager.specs.Calls.{Call, called, reads, replies, starts, turns}
+use Rattle.manager.proofs.LentRoom.{put-back}
+use Rattle.man_table.specs.Table.{heldAt}
 use Rattle.theorems.specs.Run.{reported}
-use Rattle.theorems.specs.Types.{Answer, Refusal, SdoClientManager as Manager}
-use Rattle.theorems.specs.Untouched.{Untouched, refusedBy}
+use Rattle.theorems.specs.Types.{Answer, End, Refusal, SdoClientManager as Manager}
+use Rattle.theorems.specs.Untouched.{ReadsLeaveStore, Untouched, refusedBy}
 use Rattle.theorems.proofs.Cases.{Of, Shown, reply-by, turn-by}
-use Rattle.theorems.proofs.StartBy.{start-by}
+use Rattle.theorems.proofs.StartBy.{fresh, start-by}
 
 -- what an answer says of what is left: of a refusal all, of others nothing
 abbrev Says : (Refusal → Manager) → Bytes → Bytes → Shown
@@ -17,11 +19,6 @@ Says M store output k s out (Answer.Sent x) es = Unit {0}
 Says M store output k s out (Answer.Refused r) es = (k ≡ M r) × (s ≡ store) × (out ≡ output) × (es ≡ [])
 
 module _ (m : Manager) (store output : Bytes) where
-  same : (x : Answer) → Says (λ (r : Refusal). m) store output m store output x []
-  same Answer.Nothing = tt
-  same (Answer.Sent s) = tt
-  same (Answer.Refused r) = (refl, refl, refl, refl)
-
   call-says : (x : Call) → Of (Says (refusedBy m x) store output) (called m store output x)
   unfolding pick
   call-says (starts node job n) =
@@ -32,7 +29,8 @@ module _ (m : Manager) (store output : Bytes) where
       turn-by t m n store output (Says (λ (r : Refusal). m) store output) (λ r. (refl, refl, refl, refl)) (λ l long fits e. tt)
       (λ k o l long fits e. tt)
   call-says (replies node seq cmd payload) =
-      reply-by m node seq cmd payload store output (Says (λ (r : Refusal). m) store output) same (λ k d long at e. tt)
+      reply-by m node seq cmd payload store output (Says (λ (r : Refusal). m) store output) (λ r. (refl, refl, refl, refl))
+      (λ none. tt) (λ k d long at e. tt)
 
 pub untouched : Untouched
 unfolding Untouched
@@ -42,3 +40,11 @@ untouched m store output x r e =
     Says (refusedBy m x) store output (called m store output x .done .manager) (called m store output x .store) (called m store output x .output) y
     (reported (called m store output x)))
     e (call-says m store output x)
+
+-- a read puts back the bytes of its room
+pub reads-leave-store : ReadsLeaveStore
+unfolding ReadsLeaveStore
+reads-leave-store m store output node index sub now =
+    start-by m node (reads index sub) now store output
+    (λ (k : Manager) (after out : Bytes) (x : Answer) (es : List End). after ≡ store) (λ r e. refl) (λ r e k f. refl)
+    (λ k d long at e. put-back store long (heldAt m k)) (λ d long unheld few e. put-back store long (fresh m node)) (λ r e f unheld few. refl)

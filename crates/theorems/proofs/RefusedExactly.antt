@@ -10,6 +10,7 @@ use lib.ListN.{length}
 use borrow.Author.Tests.{eqb-true, eqb-false, leb-true, leb-false, ltb-true, ltb-false}
 use Rattle.codec.specs.Bytes.{Bytes}
 use Rattle.con_reply.specs.Reply.{replyOf}
+use Rattle.laws.specs.Checks.{Check, check}
 use Rattle.laws.specs.Pick.{pick}
 use Rattle.laws.proofs.Choices.{decided, either}
 use Rattle.manager.specs.Calls.{After, Call, Effect, Job, called, idleOf, numberOf, outputSize, replies, replyAt, replyBy, replyFrom, roomIn, seatIn, seatOf, startAt, startOf, startedAs, starts, takesNumber, turnOf, turns, walkedTo}
@@ -18,13 +19,11 @@ use Rattle.man_table.specs.Table.{blank, findIn, freeRoom, live, storeSize, hel
 use Rattle.man_table.specs.Walk.{Walking, refused, stopped, through, walkList}
 use Rattle.theorems.specs.Causes.{
   BusyAs,
-  Check,
   ExactlyWhen,
   FullAs,
   OutOfRange,
   OverflowsAs,
   Sets,
-  check,
   checksOf,
   jobChecks,
   replyChecks,
@@ -32,7 +31,7 @@ use Rattle.theorems.specs.Causes.{
   turnChecks,
   turnDoes,
 }
-use Rattle.theorems.specs.Run.{Host, made, reached}
+use Rattle.theorems.specs.Run.{Host, Lends, another, lentStore, made, own, reached}
 use Rattle.theorems.specs.Sound.{Reached, Sane, Sound}
 use Rattle.theorems.specs.Types.{
   Answer,
@@ -58,6 +57,7 @@ use Rattle.theorems.proofs.ReplyChecks.{NoRoomIf, reply-if}
 use Rattle.theorems.proofs.Rooms.{room-length}
 use Rattle.theorems.proofs.StartBy.{fresh, startOn}
 use Rattle.theorems.proofs.TurnChecks.{RefusedIf, walk-if}
+use Rattle.theorems.proofs.WrongStore.{wrong-store}
 
 -- ---- starts
 started-answer : (x : Taken) (entry : Entry) → answerOf x ≡ startedAs x entry .answer
@@ -77,10 +77,10 @@ done-answer m c = either (λ (d : Done). c .answer ≡ d .answer) (c .sweeps) _ 
 module _ (m : Manager) (store : Bytes) (sound : Sound m store) where
   module _ (node : ℕ) (job : Job) (n : Now) where
     -- after the store: whose job it is
-    abbrev after : Found → List Check
+    abbrev after : Found → List (Check Refusal)
     after f = check Refusal.TableFull (FullAs f m) ∷ check Refusal.Busy (BusyAs f m) ∷ jobChecks job n
 
-    abbrev Starts : List Check → Effect → Type 0
+    abbrev Starts : List (Check Refusal) → Effect → Type 0
     Starts checks e = Answers checks (e .change .answer)
 
     module _ (long : length store ≡ storeSize) where
@@ -138,7 +138,7 @@ module _ (m : Manager) (store : Bytes) (sound : Sound m store) where
       ))
       (λ h. inl (eqb-false _ _ h, refl))
     where
-      fitting : List Check
+      fitting : List (Check Refusal)
       fitting =
           check Refusal.BufferTooShort (length output < outputSize)
           ∷ check Refusal.DeadlineRange (OutOfRange n × Sets (turnDoes t n) (live m))
@@ -149,7 +149,7 @@ module _ (m : Manager) (store : Bytes) (sound : Sound m store) where
 
   -- ---- reply
   module _ (node : ℕ) (seq : SequenceLayerHeader) (cmd : SdoCommand) (payload : Bytes) where
-    abbrev Replies : List Check → Effect → Type 0
+    abbrev Replies : List (Check Refusal) → Effect → Type 0
     Replies checks e = Answers checks (e .change .answer)
 
     decided-answers : (cause : Type 0) (k : ℕ) (c : Connection) (x : Decision) → NoRoomIf cause x
@@ -185,9 +185,25 @@ module _ (m : Manager) (store : Bytes) (sound : Sound m store) where
       subst (Answers (replyChecks m store node seq cmd payload)) (done-answer m (replyFrom m node seq cmd payload store .change))
       (reply-answers node seq cmd payload)
 
+-- the store is checked first
+wrong-answers : (m : Manager) (store output : Bytes) → (length store ≡ storeSize → ⊥) → (x : Call)
+    → Answers (checksOf m store output x) (Answer.Refused Refusal.WrongStore)
+wrong-answers m store output ne (starts node job n) = inl (ne, refl)
+wrong-answers m store output ne (turns t n) = inl (ne, refl)
+wrong-answers m store output ne (replies node seq cmd payload) = inl (ne, refl)
+
 pub exactly-when : ExactlyWhen
 unfolding ExactlyWhen Reached
 exactly-when lent earlier x r =
-    let host : Host = reached lent earlier in
-    exactly (checksOf (host .manager) (host .store) (x .output) (x .call)) (made host x .done .answer)
-    (call-answers (host .manager) (host .store) (all-sound lent earlier) (x .output) (x .call)) r
+    exactly (checksOf (host .manager) (lentStore (x .lends) (host .store)) (x .output) (x .call)) (made host x .done .answer) (go (x .lends)) r
+  where
+    host : Host
+    host = reached lent earlier
+
+    go : (l : Lends)
+        → Answers (checksOf (host .manager) (lentStore l (host .store)) (x .output) (x .call))
+        (made host (record { call = x .call; lends = l; output = x .output }) .done .answer)
+    go own = call-answers (host .manager) (host .store) (all-sound lent earlier) (x .output) (x .call)
+    go (another store differs) =
+        rw (wrong-store (host .manager) store (x .output) (x .call) differs)
+        (wrong-answers (host .manager) store (x .output) differs (x .call))

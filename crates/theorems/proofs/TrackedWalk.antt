@@ -1,26 +1,12 @@
--- The walk of ask and tick over a table in which a node is tracked: what ask gives the node, read from the answer and the output, is what
--- its connection says; what others give does not count.
-use Prim.Native.Nat.{ℕ, _≤_, _<_}
-use native.Mathlib.Omega.{arith}
-use mathlib.Core.Path.{_≡_, refl, sym, _∙_, ap, subst}
-use mathlib.Core.List.{List, [], _∷_}
-use lib.ListN.{length, drop, getD}
-use lib.Seq.{take-at}
-use borrow.Author.Tests.{eq-eqb, ne-eqb, le-leb}
-use Rattle.laws.specs.Pick.{pick}
-use Rattle.codec.specs.Bytes.{Bytes}
-use Rattle.codec.specs.Writing.{bufferAfter}
-use Rattle.connection.specs.Ask.{askOf}
-use Rattle.con_rec.specs.Commands.{commandOf}
-use Rattle.con_reply.specs.Sent.{Sent, Sized, logged, sentOf}
-use Rattle.con_rec.specs.Payload.{payloadOf}
-use Rattle.connection.specs.Tick.{tickOf}
-use Rattle.con_reply.proofs.JobCarried.{Aim, Asked, Left, Ticked, joinedBy}
-use Rattle.con_reply.proofs.StepCarries.{ask-kept, tick-kept}
-use Rattle.manager.specs.Calls.{roomIn, sentTo}
+-- The walk of ask and tick over a table in which a node's connection stands: it takes its step, or the walk stopped before it; and the command that
+-- the walk stops at is its own, or another's.
+use Prim.Native.Nat.{ℕ}
+use mathlib.Core.Path.{_≡_, refl, sym, _∙_, ap}
+use mathlib.Core.List.{List}
+use mathlib.Core.Logic.{_⊎_, inl, inr}
+use lib.ListN.{getD}
 use Rattle.man_table.specs.Table.{blank}
 use Rattle.man_table.specs.Walk.{Walking, passed, refused, stopOr, stopped, through, atTurn, walkList, walkStep}
-use Rattle.theorems.specs.Demand.{commandIn, givenTo}
 use Rattle.theorems.specs.Types.{
   Now,
   Outgoing,
@@ -29,127 +15,80 @@ use Rattle.theorems.specs.Types.{
   Stepped,
   Turn,
 }
-use Rattle.theorems.proofs.AllLists.{Each, all-at, all-each}
+use Rattle.theorems.proofs.AllLists.{all-at, all-each}
 use Rattle.theorems.proofs.NodeAndRoom.{Same}
-use Rattle.theorems.proofs.Rooms.{roomAt}
-use Rattle.theorems.proofs.Tracked.{Held, Other, Others, Tracks, here, there, left-of, other-same, tracks-by}
+use Rattle.theorems.proofs.Tracked.{Other, Others, Tracks, here, there, other-same}
 use Rattle.theorems.proofs.WalkSteps.{StepBy, WalkBy, turn-same, walk-same}
 
--- what of a walk's command counts for the node
-abbrev pub countsTo : ℕ → Turn → Bytes → Bytes → Connection → Outgoing → List Sent
-countsTo node Turn.Asking store output d o = givenTo node (bufferAfter (payloadOf (roomIn store d) o) output) (sentTo d o)
-countsTo node Turn.Ticking store output d o = []
+module _ (t : Turn) (n : Now) where
+  -- what a walk makes of a connection
+  pub data Turned (c : Connection) : Sends → Connection → Type 0 where
+    unreached : Turned c Sends.Silent c
+    stepped : {x : Sends} {d : Connection} → atTurn t c n ≡ Stepped.Went (record { connection = d; sends = x }) → Turned c x d
 
--- what its own connection's step says
-abbrev Goes : Aim → List Bytes → Turn → Sends → Connection → Type 0
-Goes a got Turn.Asking x d = Left a (joinedBy got (logged (a .room) x)) d × Sized (a .room) x
-Goes a got Turn.Ticking x d = Left a got d
+  module _ (node at : ℕ) (c : Connection) where
+    pub record Walked (x : Sends) (l : List Connection) : Type 0 where
+      pub then : Connection
+      pub turned : Turned c x then
+      pub tracks : Tracks node at (λ (y : Connection). y ≡ then) l
 
-abbrev StepGoes : Aim → List Bytes → Turn → Stepped → Type 0
-StepGoes a got t (Stepped.Went s) = Goes a got t (s .sends) (s .connection)
-StepGoes a got t (Stepped.Refused r) = Unit {0}
+    -- the walk stops at its command
+    pub record Gives (k : ℕ) (o : Outgoing) (l : List Connection) : Type 0 where
+      pub walked : Walked (Sends.Gives o) l
+      pub is : getD l k blank ≡ walked .then
 
-turn-goes : (a : Aim) (got : List Bytes) (t : Turn) (n : Now) (c : Connection) → Held a got c → StepGoes a got t (atTurn t c n)
-unfolding Asked Ticked
-turn-goes a got Turn.Asking n c h = go (askOf c n) (ask-kept a got c n (h .runs) (h .carries))
-  where
-    go : (s : Stepped) → Asked a got s → StepGoes a got Turn.Asking s
-    go (Stepped.Went s) i = i
-    go (Stepped.Refused r) i = tt
-turn-goes a got Turn.Ticking n c h = go (tickOf c n) (tick-kept a got c n (h .runs) (h .carries))
-  where
-    go : (s : Stepped) → Ticked a got s → StepGoes a got Turn.Ticking s
-    go (Stepped.Went s) i = i
-    go (Stepped.Refused r) i = tt
+    abbrev pub Sees : Walking → Type 0
+    Sees (refused r) = Unit {0}
+    Sees (through l) = Walked Sends.Silent l
+    Sees (stopped k o l) = Gives k o l ⊎ (Walked Sends.Silent l × Other node at (getD l k blank))
 
-abbrev pub WalkGood : Aim → ℕ → ℕ → List Bytes → Turn → Bytes → Bytes → Walking → Type 0
-WalkGood a node at got t store output (refused r) = Unit {0}
-WalkGood a node at got t store output (through l) = Tracks node at (Left a got) l
-WalkGood a node at got t store output (stopped k o l) =
-    Tracks node at (Left a (joinedBy got (countsTo node t store output (getD l k blank) o))) l
+    -- ---- its own step, and the walk of the others after it
+    module _ (d : Connection) (e : d .«target_node_id» ≡ node) (f : d .room ≡ at) where
+      pass-here : (l : List Connection) (w : Walking) → Turned c Sends.Silent d → Others node at l → WalkBy Same l w → Sees (passed d w)
+      pass-here l (refused r) u o h = tt
+      pass-here l (through m) u o h =
+          record { then = d; turned = u; tracks = here e f refl (all-each (Other node at) Same (other-same node at) l m h o) }
+      pass-here l (stopped k x m) u o h =
+          let others : Others node at m = all-each (Other node at) Same (other-same node at) l m (h .0) o in
+          inr (record { then = d; turned = u; tracks = here e f refl others }, all-at (Other node at) m k blank (h .1) others)
 
--- the payload at the start of the output is the one that was put there
-read-out : (output room : Bytes) (o : Outgoing) → 1452 ≤ length output → Sized room (Sends.Gives o)
-    → commandIn (commandOf o) (bufferAfter (payloadOf room o) output) ≡ sentOf room o
-unfolding bufferAfter pick
-read-out output room o long z =
-    let fits : length (payloadOf room o) ≤ length output = omega (arith, z .0, z .1) in
-    ap
-    (λ (p : Bytes).
-    record { id = commandOf o .header .«command_id»; kind = commandOf o .header .segmentation; payload = p })
-    (rw (le-leb (length (payloadOf room o)) (length output) fits)
-    (take-at (payloadOf room o) (drop (length (payloadOf room o)) output) (commandOf o .header .«segment_size») (z .0)))
+      stop-here : (x : Sends) (l : List Connection) (w : Walking) → Turned c x d → Others node at l → WalkBy Same l w
+          → Sees (stopOr x d l w)
+      stop-here (Sends.Gives x) l w u o h = inl (record { walked = record { then = d; turned = u; tracks = here e f refl o }; is = refl })
+      stop-here Sends.Silent l w u o h = pass-here l w u o h
 
-module _ (a : Aim) (node at : ℕ) (got : List Bytes) (t : Turn) (n : Now) (store output : Bytes) (same : roomAt store at ≡ a .room)
-    (long : 1452 ≤ length output) where
-  -- what is given to another node does not count
-  not-counted : (u : Turn) (d : Connection) (o : Outgoing) → Other node at d → countsTo node u store output d o ≡ []
-  unfolding pick
-  not-counted Turn.Asking d o x = rw (ne-eqb (d .«target_node_id») node (x .node-differs))
-  not-counted Turn.Ticking d o x = refl
+    step-here : (x : Connection) (s : Stepped) (l : List Connection) (w : Walking) → x ≡ c → x .«target_node_id» ≡ node → x .room ≡ at
+        → atTurn t x n ≡ s → StepBy Same x s → Others node at l → WalkBy Same l w → Sees (walkStep s l w)
+    step-here x (Stepped.Refused r) l w q e f g same o h = tt
+    step-here x (Stepped.Went s) l w q e f g same o h =
+        stop-here (s .connection) (same .0 ∙ e) (same .1 ∙ f) (s .sends) l w (stepped (ap (λ (y : Connection). atTurn t y n) (sym q) ∙ g)) o h
 
-  -- what is given to the node itself counts as its connection says
-  counted : (u : Turn) (d : Connection) (o : Outgoing) → d .«target_node_id» ≡ node → d .room ≡ at → Goes a got u (Sends.Gives o) d
-      → Left a (joinedBy got (countsTo node u store output d o)) d
-  unfolding pick
-  counted Turn.Asking d o e f g =
-      let own : roomIn store d ≡ a .room = rw f same in
-      let given : countsTo node Turn.Asking store output d o ≡ sentOf (a .room) o ∷ [] =
-      rw (eq-eqb (d .«target_node_id») node e, own) (ap (λ (s : Sent). s ∷ []) (read-out output (a .room) o long (g .1))) in
-      subst (λ (l : List Sent). Left a (joinedBy got l) d) (sym given) (g .0)
-  counted Turn.Ticking d o e f g = g
+    -- ---- another's step before it
+    pass-there : (d : Connection) (w : Walking) → Other node at d → Sees w → Sees (passed d w)
+    pass-there d (refused r) o g = tt
+    pass-there d (through m) o g = record { then = g .then; turned = g .turned; tracks = there o (g .tracks) }
+    pass-there d (stopped k x m) o (inl g) =
+        inl
+        (record {
+          walked = record { then = g .walked .then; turned = g .walked .turned; tracks = there o (g .walked .tracks) };
+          is = g .is;
+        })
+    pass-there d (stopped k x m) o (inr (g, other)) =
+        inr (record { then = g .then; turned = g .turned; tracks = there o (g .tracks) }, other)
 
-  silent : (u : Turn) (d : Connection) → Goes a got u Sends.Silent d → Left a got d
-  silent Turn.Asking d g = g .0
-  silent Turn.Ticking d g = g
+    stop-there : (x : Sends) (d : Connection) (l : List Connection) (w : Walking) → Other node at d
+        → Tracks node at (λ (y : Connection). y ≡ c) l → Sees w → Sees (stopOr x d l w)
+    stop-there (Sends.Gives x) d l w o u g = inr (record { then = c; turned = unreached; tracks = there o u }, o)
+    stop-there Sends.Silent d l w o u g = pass-there d w o g
 
-  abbrev Good : Walking → Type 0
-  Good w = WalkGood a node at got t store output w
+    step-there : (x : Connection) (s : Stepped) (l : List Connection) (w : Walking) → Other node at x → StepBy Same x s
+        → Tracks node at (λ (y : Connection). y ≡ c) l → Sees w → Sees (walkStep s l w)
+    step-there x (Stepped.Refused r) l w o same u g = tt
+    step-there x (Stepped.Went s) l w o same u g =
+        stop-there (s .sends) (s .connection) l w (other-same node at x (s .connection) same o) u g
 
-  not-counts : (k : ℕ) (o : Outgoing) (l m : List Connection) → Each Same l m → k < length m → Others node at l
-      → countsTo node t store output (getD m k blank) o ≡ []
-  not-counts k o l m e h x =
-      not-counted t (getD m k blank) o
-      (all-at (Other node at) m k blank h (all-each (Other node at) Same (other-same node at) l m e x))
-
-  -- ---- the node's own step, and the walk of the others after it
-  pass-here : (d : Connection) (l : List Connection) (w : Walking) → d .«target_node_id» ≡ node → d .room ≡ at → Left a got d
-      → Others node at l → WalkBy Same l w → Good (passed d w)
-  pass-here d l (refused r) e f i o h = tt
-  pass-here d l (through m) e f i o h = here e f i (all-each (Other node at) Same (other-same node at) l m h o)
-  pass-here d l (stopped k x m) e f i o h =
-      rw (not-counts k x l m (h .0) (h .1) o) (here e f i (all-each (Other node at) Same (other-same node at) l m (h .0) o))
-
-  stop-here : (x : Sends) (d : Connection) (l : List Connection) (w : Walking) → d .«target_node_id» ≡ node → d .room ≡ at
-      → Goes a got t x d → Others node at l → WalkBy Same l w → Good (stopOr x d l w)
-  stop-here (Sends.Gives x) d l w e f g o h = here e f (counted t d x e f g) o
-  stop-here Sends.Silent d l w e f g o h = pass-here d l w e f (silent t d g) o h
-
-  step-here : (c : Connection) (s : Stepped) (l : List Connection) (w : Walking) → c .«target_node_id» ≡ node → c .room ≡ at
-      → StepGoes a got t s → StepBy Same c s → Others node at l → WalkBy Same l w → Good (walkStep s l w)
-  step-here c (Stepped.Refused r) l w e f g x o h = tt
-  step-here c (Stepped.Went s) l w e f g x o h = stop-here (s .sends) (s .connection) l w (x .0 ∙ e) (x .1 ∙ f) g o h
-
-  -- ---- another's step before it
-  pass-there : (d : Connection) (w : Walking) → Other node at d → Good w → Good (passed d w)
-  pass-there d (refused r) o g = tt
-  pass-there d (through m) o g = there o g
-  pass-there d (stopped k x m) o g = there o g
-
-  stop-there : (x : Sends) (d : Connection) (l : List Connection) (w : Walking) → Other node at d → Tracks node at (Held a got) l
-      → Good w → Good (stopOr x d l w)
-  stop-there (Sends.Gives x) d l w o u g =
-      rw (not-counted t d x o) (there o (tracks-by node at (Held a got) (Left a got) (left-of node at a got) u))
-  stop-there Sends.Silent d l w o u g = pass-there d w o g
-
-  step-there : (c : Connection) (s : Stepped) (l : List Connection) (w : Walking) → Other node at c → StepBy Same c s
-      → Tracks node at (Held a got) l → Good w → Good (walkStep s l w)
-  step-there c (Stepped.Refused r) l w o x u g = tt
-  step-there c (Stepped.Went s) l w o x u g =
-      stop-there (s .sends) (s .connection) l w (other-same node at c (s .connection) x o) u g
-
-  pub walk-good : {l : List Connection} → Tracks node at (Held a got) l → Good (walkList t n l)
-  walk-good (here {c = c} {l = l} e f h o) =
-      step-here c (atTurn t c n) l (walkList t n l) e f (turn-goes a got t n c h) (turn-same t n c) o (walk-same t n l)
-  walk-good (there {c = c} {l = l} o u) =
-      step-there c (atTurn t c n) l (walkList t n l) o (turn-same t n c) u (walk-good u)
+    pub walk-sees : {l : List Connection} → Tracks node at (λ (y : Connection). y ≡ c) l → Sees (walkList t n l)
+    walk-sees (here {c = x} {l = l} e f q o) =
+        step-here x (atTurn t x n) l (walkList t n l) q e f refl (turn-same t n x) o (walk-same t n l)
+    walk-sees (there {c = x} {l = l} o u) =
+        step-there x (atTurn t x n) l (walkList t n l) o (turn-same t n x) u (walk-sees u)

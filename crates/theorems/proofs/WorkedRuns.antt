@@ -1,30 +1,56 @@
--- P7, P8, P9 and a write, run by the calls: computed.
+-- Jobs run by the calls, computed: P7, P8, P9 and a write; and with body: several parts, a node that was used before, a run that is disturbed.
+use Prim.Native.Nat.{ℕ}
 use mathlib.Core.Path.{_≡_, refl}
 use mathlib.Core.List.{[], _∷_, map}
+use lib.ListN.{length, replicate}
 use Rattle.laws.specs.Pick.{among, pick}
 use Rattle.codec.specs.Bytes.{placed}
-use Rattle.codec.specs.Dcf.{dcfStep}
+use Rattle.codec.specs.Dcf.{dcfStep, sentAs}
 use Rattle.codec.specs.Writing.{bufferAfter}
 use Rattle.connection.specs.Ask.{askOf, given}
 use Rattle.con_rec.specs.Deadline.{deadlineOf}
-use Rattle.con_reply.specs.Jobs.{loads, writes}
 use Rattle.con_reply.specs.Reply.{replyOf, roomFor}
 use Rattle.connection.specs.Start.{startDcf, startRead, startWrite, started}
 use Rattle.connection.specs.Tick.{tickOf}
-use Rattle.manager.specs.Calls.{called, replyFrom, seatIn, startOf, turnOf}
+use Rattle.manager.specs.Calls.{called, loads, reads, replyFrom, seatIn, startOf, turnOf, writes}
 use Rattle.manager.specs.Change.{changeDone, enteredAt, numberAfter}
-use Rattle.man_table.specs.Table.{freeRoom, targetOf}
+use Rattle.man_table.specs.Table.{freeRoom, storeSize, targetOf}
 use Rattle.theorems.specs.Edges.{first, p7, p8, second}
 use Rattle.theorems.specs.Types.{Answer, Outcome, Reason}
-use Rattle.theorems.specs.Worked.{worked}
+use Rattle.theorems.specs.Worked.{disturbed, ran, rounds, silent, uploaded, used, worked}
 
 pub works :
     map worked (loads p7 ∷ loads p8 ∷ loads (0 ∷ 0 ∷ 0 ∷ 0 ∷ []) ∷ writes 0x2100 1 (1 ∷ 4 ∷ []) ∷ [])
-    ≡ record { answer = Answer.Nothing; got = first ∷ second ∷ []; outcome = Outcome.Ended Reason.Complete; figure = 2 }
-    ∷ record { answer = Answer.Nothing; got = first ∷ []; outcome = Outcome.Ended Reason.Cut; figure = 1 }
-    ∷ record { answer = Answer.Nothing; got = []; outcome = Outcome.Ended Reason.Complete; figure = 0 }
-    ∷ record { answer = Answer.Nothing; got = first ∷ []; outcome = Outcome.Ended Reason.Complete; figure = 1 }
+    ≡ record { answer = Answer.Nothing; got = first ∷ second ∷ []; brought = []; outcome = Outcome.Ended Reason.Complete; figure = 2 }
+    ∷ record { answer = Answer.Nothing; got = first ∷ []; brought = []; outcome = Outcome.Ended Reason.Cut; figure = 1 }
+    ∷ record { answer = Answer.Nothing; got = []; brought = []; outcome = Outcome.Ended Reason.Complete; figure = 0 }
+    ∷ record { answer = Answer.Nothing; got = first ∷ []; brought = []; outcome = Outcome.Ended Reason.Complete; figure = 1 }
     ∷ []
 unfolding pick among placed dcfStep bufferAfter askOf given deadlineOf replyOf roomFor startDcf startRead startWrite started
     tickOf replyFrom seatIn startOf targetOf turnOf freeRoom called changeDone enteredAt numberAfter
 works = refl
+
+-- 3,000 bytes in three parts; a job on a node that was used before; one that is disturbed; a read in segments; and a node that answers no more
+pub works-on :
+    (differs : length {A = ℕ} [] ≡ storeSize → ⊥)
+    → ran [] (writes 0x2100 1 (replicate 3000 7)) (rounds 4 0)
+    ∷ ran used (loads p7) (rounds 4 0)
+    ∷ ran [] (loads p7) (disturbed differs)
+    ∷ ran [] (reads 0x2100 1) uploaded
+    ∷ ran [] (loads p7) silent
+    ∷ []
+    ≡ record { answer = Answer.Nothing; got = sentAs 0x2100 1 (replicate 3000 7) ∷ []; brought = []; outcome = Outcome.Ended Reason.Complete; figure = 1 }
+    ∷ record { answer = Answer.Nothing; got = first ∷ second ∷ []; brought = []; outcome = Outcome.Ended Reason.Complete; figure = 2 }
+    ∷ record { answer = Answer.Nothing; got = first ∷ second ∷ []; brought = []; outcome = Outcome.Ended Reason.Complete; figure = 2 }
+    ∷ record {
+      answer = Answer.Nothing;
+      got = sentAs 0x2100 1 [] ∷ [];
+      brought = 1 ∷ 2 ∷ 3 ∷ 4 ∷ 5 ∷ [];
+      outcome = Outcome.Ended Reason.Complete;
+      figure = 0;
+    }
+    ∷ record { answer = Answer.Nothing; got = first ∷ second ∷ []; brought = []; outcome = Outcome.Ended Reason.Timeout; figure = 1 }
+    ∷ []
+unfolding pick among placed dcfStep bufferAfter askOf given deadlineOf replyOf roomFor startDcf startRead startWrite started
+    tickOf replyFrom seatIn startOf targetOf turnOf freeRoom called changeDone enteredAt numberAfter
+works-on differs = refl

@@ -4,16 +4,16 @@ use Prim.Native.Nat.{ℕ, _+_, _%_, _<_}
 use mathlib.Core.Path.{_≡_}
 use mathlib.Core.Bool.{false}
 use mathlib.Core.List.{List, [], _∷_}
-use mathlib.Core.Logic.{_⊎_}
 use lib.Dec.{ltb, eqb}
 use lib.ListN.{length}
+use Rattle.laws.specs.Checks.{Check, First, check}
 use Rattle.laws.specs.Pick.{pick}
 use Rattle.codec.specs.Bytes.{Bytes}
 use Rattle.con_rec.specs.Deadline.{due, latest}
 use Rattle.connection.specs.Start.{isIdle}
 use Rattle.manager.specs.Calls.{Call, Job, loads, outputSize, reads, replies, starts, turns, writes}
 use Rattle.man_table.specs.Table.{findIn, live, roomSize, storeSize, heldAt}
-use Rattle.theorems.specs.Run.{Event, Host, made, reached}
+use Rattle.theorems.specs.Run.{Event, Host, lentStore, made, reached}
 use Rattle.theorems.specs.Types.{
   Answer,
   Deadline,
@@ -31,19 +31,6 @@ use Rattle.theorems.specs.Types.{
   SequenceLayerHeader,
   Turn,
 }
-
--- a refusal, and the cause for which it is given
-pub record Check : Type 1 where
-  pub refusal : Refusal
-  pub cause : Type 0
-
-abbrev pub check : Refusal → Type 0 → Check
-check r cause = record { refusal = r; cause = cause }
-
--- of checks made in this order, the first whose cause holds is that refusal's
-abbrev pub First : List Check → Refusal → Type 0
-First [] r = ⊥
-First (c ∷ l) r = (c .cause × (c .refusal ≡ r)) ⊎ ((c .cause → ⊥) × First l r)
 
 -- ---- causes of all calls
 abbrev pub WrongStore : Bytes → Type 0
@@ -76,14 +63,14 @@ jobBytes (writes index sub bytes) = 4 + length bytes
 jobBytes (reads index sub) = 0
 jobBytes (loads dcf) = length dcf
 
-abbrev pub jobChecks : Job → Now → List Check
+abbrev pub jobChecks : Job → Now → List (Check Refusal)
 jobChecks job n =
     check Refusal.DcfTooShort (Short job)
     ∷ check Refusal.NoRoom (roomSize < jobBytes job)
     ∷ check Refusal.DeadlineRange (OutOfRange n)
     ∷ []
 
-abbrev pub startChecks : SdoClientManager → Bytes → ℕ → Job → Now → List Check
+abbrev pub startChecks : SdoClientManager → Bytes → ℕ → Job → Now → List (Check Refusal)
 startChecks m store node job n =
     check Refusal.WrongStore (WrongStore store)
     ∷ check Refusal.TableFull (FullAs (findIn node (live m)) m)
@@ -142,7 +129,7 @@ abbrev pub Sets : (SdoClientConnection → Does) → List SdoClientConnection �
 Sets does [] = ⊥
 Sets does (c ∷ l) = Meets (does c) (Sets does l)
 
-abbrev pub turnChecks : Turn → SdoClientManager → Bytes → Now → Bytes → List Check
+abbrev pub turnChecks : Turn → SdoClientManager → Bytes → Now → Bytes → List (Check Refusal)
 turnChecks t m store n output =
     check Refusal.WrongStore (WrongStore store)
     ∷ check Refusal.BufferTooShort (length output < outputSize)
@@ -179,14 +166,14 @@ OverflowsAs (Found.At k) m seq cmd payload =
     Accepted (heldAt m k .waiting .«last_sent_command») (heldAt m k) seq cmd
     × Past (heldAt m k .state) (cmd .header .segmentation) (heldAt m k .job .uploaded) (length payload)
 
-abbrev pub replyChecks : SdoClientManager → Bytes → ℕ → SequenceLayerHeader → SdoCommand → Bytes → List Check
+abbrev pub replyChecks : SdoClientManager → Bytes → ℕ → SequenceLayerHeader → SdoCommand → Bytes → List (Check Refusal)
 replyChecks m store node seq cmd payload =
     check Refusal.WrongStore (WrongStore store)
     ∷ check Refusal.NoRoom (OverflowsAs (findIn node (live m)) m seq cmd payload)
     ∷ []
 
 -- ---- given exactly when
-abbrev pub checksOf : SdoClientManager → Bytes → Bytes → Call → List Check
+abbrev pub checksOf : SdoClientManager → Bytes → Bytes → Call → List (Check Refusal)
 checksOf m store output (starts node job n) = startChecks m store node job n
 checksOf m store output (turns t n) = turnChecks t m store n output
 checksOf m store output (replies node seq cmd payload) = replyChecks m store node seq cmd payload
@@ -195,5 +182,5 @@ unfoldable pub ExactlyWhen : Type 0
 ExactlyWhen =
     (lent : Bytes) (earlier : List Event) (x : Event) (r : Refusal)
     → let host : Host = reached lent earlier in
-    let checks : List Check = checksOf (host .manager) (host .store) (x .output) (x .call) in
+    let checks : List (Check Refusal) = checksOf (host .manager) (lentStore (x .lends) (host .store)) (x .output) (x .call) in
     (made host x .done .answer ≡ Answer.Refused r → First checks r) × (First checks r → made host x .done .answer ≡ Answer.Refused r)

@@ -6,10 +6,10 @@ use mathlib.Core.List.{List, [], _∷_}
 use lib.Dec.{eqb}
 use Rattle.laws.specs.Pick.{pick}
 use Rattle.codec.specs.Bytes.{Bytes}
-use Rattle.manager.specs.Calls.{Call, Job, called, replies, roomIn, starts}
+use Rattle.manager.specs.Calls.{Call, replies, roomIn, starts, turns}
 use Rattle.man_table.specs.Table.{live}
-use Rattle.theorems.specs.Run.{Event, Host, left, reached}
-use Rattle.theorems.specs.Types.{Now, SdoClientConnection, SdoClientManager, SdoCommand, SequenceLayerHeader}
+use Rattle.theorems.specs.Run.{Event, Host, next, reached}
+use Rattle.theorems.specs.Types.{SdoClientConnection, SdoClientManager}
 
 -- what a manager holds for a node: nothing, or a connection with the bytes of its room
 pub data Holding : Type 0 where
@@ -23,15 +23,20 @@ holdingIn node (c ∷ l) store = pick (eqb (c .«target_node_id») node) (connec
 abbrev pub holding : SdoClientManager → Bytes → ℕ → Holding
 holding m store node = holdingIn node (live m) store
 
--- a call leaves what is held for a node as it was
-abbrev pub Leaves : Host → Call → ℕ → Type 0
-Leaves h x node =
-    let after : Host = left (called (h .manager) (h .store) [] x) in
-    holding (after .manager) (after .store) node ≡ holding (h .manager) (h .store) node
+-- something is held, and this is so of it
+abbrev pub Held : Holding → (SdoClientConnection → Bytes → Type 0) → Type 0
+Held nothing is = ⊥
+Held (connection c room) is = is c room
+
+-- a start or a reply for another node
+abbrev pub ForAnother : ℕ → Call → Type 0
+ForAnother node (starts k job n) = k ≡ node → ⊥
+ForAnother node (turns t n) = ⊥
+ForAnother node (replies k seq cmd payload) = k ≡ node → ⊥
 
 unfoldable pub QuietOthers : Type 0
 QuietOthers =
-    (lent : Bytes) (earlier : List Event) (node other : ℕ) → (other ≡ node → ⊥)
-    → let host : Host = reached lent earlier in
-    ((job : Job) (now : Now) → Leaves host (starts node job now) other)
-    × ((seq : SequenceLayerHeader) (cmd : SdoCommand) (payload : Bytes) → Leaves host (replies node seq cmd payload) other)
+    (lent : Bytes) (earlier : List Event) (x : Event) (node : ℕ) → ForAnother node (x .call)
+    → let before : Host = reached lent earlier in
+    let after : Host = next before x in
+    holding (after .manager) (after .store) node ≡ holding (before .manager) (before .store) node

@@ -42,6 +42,6 @@ pub record Sound (m : SdoClientManager) (store : Bytes) : Type 0 where
   pub each : All (Sane store) (live m)
   pub number : m .«next_transaction_id» ≤ 255
 
--- every manager that any calls made of a new one, with any store lent
+-- every manager that any calls made of a new one, whatever the store lent at first
 unfoldable pub Reached : Type 0
 Reached = (lent : Bytes) (events : List Event) → let host : Host = reached lent events in Sound (host .manager) (host .store)

@@ -23,10 +23,13 @@ pub use Rattle.con_rec.specs.declared.SdoClientConnection.{SdoClientConnection}
 pub use Rattle.con_rec.specs.declared.SdoClientConnectionState.{SdoClientConnectionState}
 pub use Rattle.con_rec.specs.declared.SdoJob.{SdoJob}
 pub use Rattle.con_rec.specs.declared.Sends.{Sends}
+pub use Rattle.con_rec.specs.declared.Step.{Step}
 pub use Rattle.con_rec.specs.declared.Stepped.{Stepped}
+pub use Rattle.con_rec.specs.declared.Transfer.{Transfer}
 pub use Rattle.manager.specs.declared.types.Answer.{Answer}
 pub use Rattle.manager.specs.declared.types.Change.{Change}
 pub use Rattle.manager.specs.declared.types.Done.{Done}
+pub use Rattle.manager.specs.declared.types.SentTo.{SentTo}
 pub use Rattle.man_table.specs.declared.types.Ends.{Ends}
 pub use Rattle.man_table.specs.declared.types.Entry.{Entry}
 pub use Rattle.man_table.specs.declared.types.Found.{Found}

@@ -6,10 +6,10 @@ use mathlib.Core.List.{[]}
 use Rattle.laws.specs.Pick.{pick}
 use Rattle.codec.specs.Bytes.{Bytes}
 use Rattle.con_rec.specs.Record.{newConnection}
-use Rattle.manager.specs.Calls.{After, Call, called, numberOf, replies, starts, takesNumber, turns}
+use Rattle.manager.specs.Calls.{After, Call, called, numberOf, reads, replies, starts, takesNumber, turns}
 use Rattle.man_table.specs.Table.{findIn, freeRoom, insertIn, live, tableOf}
 use Rattle.theorems.specs.Run.{reported}
-use Rattle.theorems.specs.Types.{Answer, Found, Refusal, SdoClientManager}
+use Rattle.theorems.specs.Types.{Answer, Found, Now, Refusal, SdoClientManager}
 
 -- the next number taken; for a node that is not held, with an Idle connection entered
 abbrev pub stepped : SdoClientManager → SdoClientManager
@@ -32,3 +32,9 @@ Untouched =
     → let a : After = called m store output x in
     a .done .answer ≡ Answer.Refused r
     → (a .done .manager ≡ refusedBy m x r) × (a .store ≡ store) × (a .output ≡ output) × (reported a ≡ [])
+
+-- a read changes no byte of the store, taken or refused
+unfoldable pub ReadsLeaveStore : Type 0
+ReadsLeaveStore =
+    (m : SdoClientManager) (store output : Bytes) (node index sub : ℕ) (now : Now)
+    → called m store output (starts node (reads index sub) now) .store ≡ store

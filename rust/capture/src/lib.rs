@@ -24,6 +24,10 @@ impl fmt::Display for Bad {
 /// The capture file of the replay's lines, or the first line that is none.
 pub fn capture(lines: &[u8]) -> Result<Vec<u8>, Bad> {
     let mut file = pcap::start();
+    let lines = program::text(lines).ok_or(Bad {
+        line: 1,
+        expected: "a text in UTF-8, not UTF-16",
+    })?;
     for (place, text) in lines.split(|&byte| byte == b'\n').enumerate() {
         if text.trim_ascii().is_empty() {
             continue;

@@ -22,7 +22,10 @@ fn main() -> ExitCode {
     let done = match arguments.as_slice() {
         [] => capture(),
         [only] if only == "--help" => program::put(USAGE.as_bytes()),
-        _ => return program::called_wrongly(USAGE),
+        [first, ..] => {
+            let expected = "no arguments, as the lines are standard input, or --help alone";
+            return program::called_wrongly("capture", expected, Some(first), USAGE);
+        }
     };
     program::status("capture", done)
 }

@@ -60,6 +60,7 @@ fn lines_that_send_nothing() {
         "1 - 11 - - -\n",
         "1 200 10 - - -",
         "7 6 0 - - 1:C:0,2:X:9\n",
+        "\u{FEFF}1 1 0 - - -\r\n",
     ] {
         assert_eq!(captured(lines), bytes(FILE_HEAD));
     }
@@ -70,6 +71,8 @@ fn lines_that_are_none_of_the_replays() {
     let lines = format!("{DOCUMENT_01}\n1 6 0 5 FC0 -\n");
     let (line, expected) = (7, "bytes in hex fifth");
     assert_eq!(capture(lines.as_bytes()), Err(Bad { line, expected }));
+    let (line, expected) = (1, "a text in UTF-8, not UTF-16");
+    assert_eq!(capture(b"\xFF\xFE1\0"), Err(Bad { line, expected }));
     let long = format!("1 6 0 5 {} -", "00".repeat(1_497));
     let (line, expected) = (1, "no more bytes than an Ethernet frame takes");
     assert_eq!(capture(long.as_bytes()), Err(Bad { line, expected }));

@@ -32,6 +32,11 @@ fn the_programs_arguments() {
         let output = run(arguments, b"");
         assert_eq!(output.status.code(), Some(2));
         assert!(output.stdout.is_empty());
-        assert_eq!(output.stderr, help.stdout);
+        let told = format!(
+            "capture: expected no arguments, as the lines are standard input, or --help alone; \
+             found '{}'\nusage: capture < LINES > PCAP\ncapture --help tells more\n",
+            arguments[0]
+        );
+        assert_eq!(String::from_utf8(output.stderr).unwrap(), told);
     }
 }

@@ -7,6 +7,8 @@ use std::fmt;
 pub enum Bad {
     /// The text is none: what was expected of it.
     Expected(&'static str),
+    /// The bytes are no SDO frame: what was expected of them, and what they are.
+    Found(&'static str, String),
     /// The codec's answer to the frame.
     Refused(Refusal),
 }
@@ -21,6 +23,7 @@ impl fmt::Display for Bad {
     fn fmt(&self, f: &mut fmt::Formatter<'_>) -> fmt::Result {
         match self {
             Self::Expected(expected) => write!(f, "expected {expected}"),
+            Self::Found(expected, found) => write!(f, "expected {expected}; found {found}"),
             Self::Refused(refusal) => write!(f, "refused {refusal}"),
         }
     }

@@ -3,12 +3,25 @@
 use crate::bad::Bad;
 use crate::row::Row;
 use crate::words::{self, Way};
+use crate::wrapped;
 
-/// `HEX`, `5 > HEX` to node 5, or `5 < HEX` from it.
+/// `HEX`, `5 > HEX` to node 5, or `5 < HEX` from it. A frame that was copied whole has these itself.
 pub fn row(text: &[u8]) -> Result<Row, Bad> {
-    let (way, digits) = way(text)?;
-    let frame = hex::bytes(digits).ok_or(Bad::Expected("bytes in hex, two digits a byte"))?;
-    Ok(words::frame(way, &frame)?)
+    let (said, digits) = way(text)?;
+    let frame = hex::bytes(digits).ok_or_else(|| not_hex(text))?;
+    let (nodes, sdo) = wrapped::sdo(&frame)?;
+    let way = nodes.map_or(Ok(said), |nodes| nodes.way(said))?;
+    Ok(words::frame(way, sdo)?)
+}
+
+fn not_hex(text: &[u8]) -> Bad {
+    match replay_line::read(text) {
+        Ok(_) => Bad::Found(
+            "a frame",
+            "a line of the replay, which 'display replay' shows (make display DO=replay)".into(),
+        ),
+        Err(_) => Bad::Expected("bytes in hex, two digits a byte"),
+    }
 }
 
 fn way(text: &[u8]) -> Result<(Way, &[u8]), Bad> {

@@ -11,6 +11,7 @@ mod row;
 #[cfg(test)]
 mod tests;
 mod words;
+mod wrapped;
 
 use bad::Bad;
 pub use colour::When;
@@ -27,7 +28,24 @@ pub enum Notation {
 }
 
 impl Notation {
-    fn rows(self, text: &[u8]) -> Result<Vec<Row>, Bad> {
+    /// The rows of a line, none where it is blank or a comment. A mark may stand in front of the first.
+    fn rows(self, line: &[u8], first: bool) -> Result<Vec<Row>, Bad> {
+        let utf_16 = Bad::Expected("a text in UTF-8, not UTF-16");
+        let line = if first {
+            program::text(line).ok_or(utf_16)?
+        } else {
+            line
+        };
+        let text = line.trim_ascii();
+        // Where lines end in CR alone, the whole text is one of them.
+        if text.contains(&b'\r') {
+            return Err(Bad::Expected(
+                "a line that ends in LF or CRLF, not CR alone",
+            ));
+        }
+        if text.is_empty() || text.starts_with(b"#") {
+            return Ok(vec![]);
+        }
         match self {
             Self::Frames => Ok(vec![frames::row(text)?]),
             Self::Replay => replay::rows(text),
@@ -47,19 +65,16 @@ pub fn run(
     let mut line = Vec::new();
     for number in 1_u64.. {
         line.clear();
-        if input.read_until(b'\n', &mut line)? == 0 {
+        let read = input.read_until(b'\n', &mut line);
+        if read.map_err(program::of_input)? == 0 {
             break;
         }
-        let text = line.trim_ascii();
-        if text.is_empty() || text.starts_with(b"#") {
-            continue;
-        }
-        let rows = notation.rows(text).unwrap_or_else(|bad| {
+        let rows = notation.rows(&line, number == 1).unwrap_or_else(|bad| {
             all_shown = false;
             vec![Row::new(Tone::Trouble, format!("line {number}: {bad}"))]
         });
         for row in &rows {
-            colour::put(output, row, coloured)?;
+            colour::put(output, row, coloured).map_err(program::of_output)?;
         }
     }
     Ok(all_shown)

@@ -20,6 +20,12 @@ bytes. Node and direction may stand ahead of it:
   5 > HEX        the client sends it to node 5
   5 < HEX        node 5 answers it
 
+A frame may also be whole, as it is on the wire: from its Ethernet header on, whose type is 88AB, or from
+its POWERLINK message on, which begins with 06, destination, source, 05. What is ahead of the sequence
+header is passed over, but for the nodes: node 240 is the client's. Other messages of POWERLINK, and
+frames of IP, cannot be shown. A row ends in 'reserved octets not 0' or 'N octets after it not shown'
+where the bytes may be something else than one frame.
+
 LINES are those that the replay prints. A row begins with the record's number and its operation. What
 was sent, a refusal and each end have a row of their own; a gather that was taken has none.
 
@@ -35,6 +41,8 @@ NO_COLOR is set.
 exit status: 0 all shown, 1 a line was not shown, 2 wrong arguments or a failing stream
 ";
 
+const ARGUMENTS: &str = "replay, --color=always, --color=never, --color=auto or --help";
+
 const NOT_SHOWN: u8 = 1;
 
 enum Request {
@@ -44,25 +52,33 @@ enum Request {
 
 fn main() -> ExitCode {
     let done = match request(env::args_os().skip(1)) {
-        Some(Request::Help) => program::put(USAGE.as_bytes()),
-        Some(Request::Show(notation, when)) => show(notation, when),
-        None => return program::called_wrongly(USAGE),
+        Ok(Request::Help) => program::put(USAGE.as_bytes()),
+        Ok(Request::Show(notation, when)) => show(notation, when),
+        Err(wrong) => {
+            return program::called_wrongly("display", ARGUMENTS, Some(&wrong), USAGE);
+        }
     };
     program::status("display", done)
 }
 
-/// What the arguments ask for; none where one of them is wrong.
-fn request(arguments: impl Iterator<Item = OsString>) -> Option<Request> {
+/// What the arguments ask for, or the first that is wrong.
+fn request(arguments: impl Iterator<Item = OsString>) -> Result<Request, OsString> {
     let mut notation = Notation::Frames;
     let mut when = When::Auto;
     for argument in arguments {
-        match argument.to_str()? {
-            "--help" => return Some(Request::Help),
-            "replay" => notation = Notation::Replay,
-            option => when = When::of_word(option.strip_prefix("--color=")?)?,
+        if argument == "--help" {
+            return Ok(Request::Help);
+        } else if argument == "replay" {
+            notation = Notation::Replay;
+        } else {
+            when = colours(&argument).ok_or(argument)?;
         }
     }
-    Some(Request::Show(notation, when))
+    Ok(Request::Show(notation, when))
+}
+
+fn colours(argument: &OsString) -> Option<When> {
+    When::of_word(argument.to_str()?.strip_prefix("--color=")?)
 }
 
 fn show(notation: Notation, when: When) -> io::Result<ExitCode> {

@@ -16,7 +16,7 @@ pub enum Tone {
     Quiet,
     /// A job that ended Complete.
     Good,
-    /// An abort, a refusal, a job that ended otherwise, a line that cannot be shown.
+    /// An abort, a refusal, a job that ended otherwise, a line that cannot be shown, a frame that may be none.
     Trouble,
 }
 

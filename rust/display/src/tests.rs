@@ -158,9 +158,38 @@ fn each_end_has_a_row_and_a_gather_has_none() {
 fn bytes_that_are_no_text() {
     let not_hex = "line 1: expected bytes in hex, two digits a byte\n\
                    line 2: expected bytes in hex, two digits a byte\n";
-    frames(b"\xFF\xFE\n\0\n", not_hex, false);
+    frames(b"\xFF\xFF\n\0\n", not_hex, false);
     let node = "line 1: expected a node from 0 to 255 ahead of > or <\n";
     frames(b"\xFF > 00", node, false);
+}
+
+#[test]
+fn lines_that_end_in_cr_alone() {
+    let told = "line 1: expected a line that ends in LF or CRLF, not CR alone\n";
+    frames(b"FC0100000001000000000000\rFC01\r", told, false);
+    frames(b"# a comment\rFC01\r", told, false);
+    replay(b"1 1 0 - - -\r2 5 0 - - -\r", told, false);
+}
+
+#[test]
+fn a_line_of_the_replay_is_no_frame() {
+    frames(
+        b"2 6 0 5 FC0100000001000000000000 -\n1 1 0 - - 5:A:1\n",
+        "\
+line 1: expected a frame; found a line of the replay, which 'display replay' shows (make display DO=replay)
+line 2: expected bytes in hex, two digits a byte
+",
+        false,
+    );
+}
+
+#[test]
+fn marks_in_front_of_a_text() {
+    let row = "    2  tick\n";
+    replay(b"\xEF\xBB\xBF2 5 0 - - -\r\n", row, true);
+    let told = "line 1: expected a text in UTF-8, not UTF-16\n";
+    replay(b"\xFF\xFE2\0 \x005\0", told, false);
+    frames(b"\xFE\xFF\x00F\x00C\0\n", told, false);
 }
 
 #[test]

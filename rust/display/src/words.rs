@@ -6,6 +6,7 @@ mod content;
 mod tests;
 
 use crate::row::{head, head_alone, Row, Tone};
+use crate::wrapped;
 use content::Content;
 use ostelumiv::{CommandId, Refusal, SdoCommand, SendConnState, SequenceLayerHeader};
 use trace::{RECEIVE_STATES, SEND_STATES};
@@ -26,6 +27,8 @@ pub fn frame(way: Way, frame: &[u8]) -> Result<Row, Refusal> {
     let sequence = SequenceLayerHeader::deserialize(frame)?;
     let command = SdoCommand::deserialize(&frame[COMMAND_START..])?;
     let content = Content::of(way, &command)?;
+    let doubts = doubts(frame, &command);
+    let trouble = command.header.is_aborted || !doubts.is_empty();
     let text = format!(
         "{}  {:<12}  {:<9}  {:<7}  {:<10}  transaction {:>3}  {}  {}",
         way_words(way),
@@ -35,9 +38,9 @@ pub fn frame(way: Way, frame: &[u8]) -> Result<Row, Refusal> {
         size(command.header.segment_size),
         command.header.transaction_id,
         sequence_words(&sequence),
-        carried(&command, content.words),
+        carried(&command, content.words, doubts),
     );
-    Ok(Row::new(tone(way, &command), text))
+    Ok(Row::new(tone(way, trouble), text))
 }
 
 fn way_words(way: Way) -> String {
@@ -48,9 +51,9 @@ fn way_words(way: Way) -> String {
     }
 }
 
-fn tone(way: Way, command: &SdoCommand) -> Tone {
+fn tone(way: Way, trouble: bool) -> Tone {
     match way {
-        _ if command.header.is_aborted => Tone::Trouble,
+        _ if trouble => Tone::Trouble,
         Way::From(_) => Tone::Answer,
         Way::To(_) | Way::Unknown => Tone::Plain,
     }
@@ -84,12 +87,28 @@ fn sequence_words(header: &SequenceLayerHeader) -> String {
 }
 
 /// What only some commands have.
-fn carried(command: &SdoCommand, content: Option<String>) -> String {
+fn carried(command: &SdoCommand, content: Option<String>, doubts: Vec<String>) -> String {
     let response = command.header.is_response.then(|| "response".into());
     let data_size = command.data_size.map(|size| format!("data size {size}"));
-    let words: Vec<String> = [response, data_size, content]
+    let mut words: Vec<String> = [response, data_size, content]
         .into_iter()
         .flatten()
         .collect();
+    words.extend(doubts);
     words.join(", ")
+}
+
+/// What the codec passes over, and no frame has that keeps to the paper: these bytes may be something else, or two frames.
+fn doubts(frame: &[u8], command: &SdoCommand) -> Vec<String> {
+    let mut doubts = vec![];
+    if wrapped::uses_reserved(frame) {
+        doubts.push("reserved octets not 0".into());
+    }
+    let sizes = if command.data_size.is_some() { 12 } else { 8 };
+    let after = &frame[COMMAND_START + sizes + command.payload.len()..];
+    // Zeros fill up a short Ethernet frame.
+    if after.iter().any(|&octet| octet != 0) {
+        doubts.push(format!("{} octets after it not shown", after.len()));
+    }
+    doubts
 }

@@ -1,6 +1,7 @@
 //! The runs in traces/ as pictures, and the documents' quotes of what is shown.
 
 use display::{run, Notation};
+use ostelumiv::Refusal;
 use std::fs;
 use std::path::{Path, PathBuf};
 
@@ -37,13 +38,25 @@ fn the_guide_has_the_picture_of_document_01s_run() {
     assert_eq!(shown(Notation::Replay, &lines), picture("document01"));
 }
 
-/// The hex that the README echoes, and the row below it.
+/// The hex that a document echoes, and the row below it.
 #[test]
-fn the_readmes_example() {
-    let readme = text(&root().join("README.md"));
-    let (_, example) = readme.split_once("echo '").unwrap();
-    let (frame, _) = example.split_once("' | make -s display\n").unwrap();
-    quotes("README.md", &shown(Notation::Frames, frame));
+fn the_frames_in_the_documents() {
+    for document in ["README.md", "docs/TRACES.md"] {
+        let text = text(&root().join(document));
+        let (_, example) = text.split_once("echo '").unwrap();
+        let (frame, _) = example.split_once("' | make -s display\n").unwrap();
+        quotes(document, &shown(Notation::Frames, frame));
+    }
+}
+
+#[test]
+fn the_guide_has_every_refusal() {
+    let guide = text(&root().join("docs/TRACES.md"));
+    for number in 1..=11 {
+        let refusal = Refusal::from_number(number).unwrap().to_string();
+        let row = format!("\n| {} | ", refusal.replace(' ', " | "));
+        assert!(guide.contains(&row), "{refusal}");
+    }
 }
 
 /// Every line of the replay in traces/ can be shown, and each record but for gathers has its row.

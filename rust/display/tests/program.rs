@@ -58,17 +58,22 @@ fn the_programs_arguments() {
     let help = shown(&["--help"], b"", 0);
     assert!(help.starts_with("usage: display"));
     assert_eq!(shown(&["replay", "--help"], b"", 0), help);
-    for arguments in [
-        &["frames"][..],
-        &["--color"],
-        &["--color=sometimes"],
-        &["replay", "file"],
-        &["-h"],
-        &[""],
+    for (arguments, wrong) in [
+        (&["frames"][..], "frames"),
+        (&["--color"], "--color"),
+        (&["--color=sometimes"], "--color=sometimes"),
+        (&["replay", "file"], "file"),
+        (&["-h"], "-h"),
+        (&[""], ""),
     ] {
         let output = run(arguments, b"");
         assert_eq!(output.status.code(), Some(2), "{arguments:?}");
         assert!(output.stdout.is_empty());
-        assert_eq!(output.stderr, help.as_bytes());
+        let told = format!(
+            "display: expected replay, --color=always, --color=never, --color=auto or --help; \
+             found '{wrong}'\nusage: display [--color=WHEN] < FRAMES\n       \
+             display replay [--color=WHEN] < LINES\ndisplay --help tells more\n"
+        );
+        assert_eq!(String::from_utf8(output.stderr).unwrap(), told);
     }
 }

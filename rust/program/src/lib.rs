@@ -2,6 +2,7 @@
 //! fails or the arguments are wrong, and a run of another program.
 
 use std::env;
+use std::ffi::OsString;
 use std::fmt::Display;
 use std::io::{self, ErrorKind, Read, Write};
 use std::process::{Command, ExitCode, Output, Stdio};
@@ -10,19 +11,40 @@ use std::thread;
 /// Wrong arguments, or a failing stream.
 const FAILED: u8 = 2;
 
+/// What some editors put in front of a text: in UTF-8, and in the two kinds of UTF-16.
+const UTF_8_MARK: &[u8] = b"\xEF\xBB\xBF";
+const UTF_16_MARKS: [&[u8]; 2] = [b"\xFF\xFE", b"\xFE\xFF"];
+
+/// A text without the mark in front of it; none where the mark says that it is in UTF-16, which nobody here reads.
+pub fn text(bytes: &[u8]) -> Option<&[u8]> {
+    let utf_16 = UTF_16_MARKS.iter().any(|mark| bytes.starts_with(mark));
+    (!utf_16).then(|| bytes.strip_prefix(UTF_8_MARK).unwrap_or(bytes))
+}
+
 /// All of standard input.
 pub fn input() -> io::Result<Vec<u8>> {
     let mut bytes = Vec::new();
-    io::stdin().lock().read_to_end(&mut bytes)?;
+    let read = io::stdin().lock().read_to_end(&mut bytes);
+    read.map_err(of_input)?;
     Ok(bytes)
 }
 
 /// Writes all that the program has to say, which is well then.
 pub fn put(bytes: &[u8]) -> io::Result<ExitCode> {
     let mut output = io::stdout().lock();
-    output.write_all(bytes)?;
-    output.flush()?;
+    let written = output.write_all(bytes).and_then(|()| output.flush());
+    written.map_err(of_output)?;
     Ok(ExitCode::SUCCESS)
+}
+
+/// An error of standard input, told as such.
+pub fn of_input(error: io::Error) -> io::Error {
+    io::Error::new(error.kind(), format!("standard input: {error}"))
+}
+
+/// An error of standard output, told as such.
+pub fn of_output(error: io::Error) -> io::Error {
+    io::Error::new(error.kind(), format!("standard output: {error}"))
 }
 
 /// Tells on standard error what is wrong. Where nobody reads that, the exit status still says it.
@@ -30,9 +52,20 @@ pub fn tell(program: &str, wrong: impl Display) {
     let _ = writeln!(io::stderr(), "{program}: {wrong}");
 }
 
-/// The exit status after wrong arguments, for which the usage is shown.
-pub fn called_wrongly(usage: &str) -> ExitCode {
-    let _ = write!(io::stderr(), "{usage}");
+/// The exit status after wrong arguments. The one that is wrong is told, if it is there, and how the program is called: the usage up
+/// to its first blank line.
+pub fn called_wrongly(
+    program: &str,
+    expected: &str,
+    found: Option<&OsString>,
+    usage: &str,
+) -> ExitCode {
+    let found = found.map_or("nothing".into(), |word| {
+        format!("'{}'", word.to_string_lossy().escape_debug())
+    });
+    tell(program, format_args!("expected {expected}; found {found}"));
+    let called = usage.split("\n\n").next().unwrap_or(usage);
+    let _ = writeln!(io::stderr(), "{called}\n{program} --help tells more");
     ExitCode::from(FAILED)
 }
 

@@ -1,7 +1,7 @@
 //! The repository's manager as a replay, and our replay programs against it. USAGE has the modes.
 
 use std::env;
-use std::io::{self, ErrorKind};
+use std::io::{self, ErrorKind, Write};
 use std::process::ExitCode;
 
 const USAGE: &str = "\
@@ -20,8 +20,16 @@ exit status: 0 all is well, 1 it is not";
 
 fn main() -> ExitCode {
     let arguments: Vec<_> = env::args_os().skip(1).collect();
-    let words: Option<Vec<&str>> = arguments.iter().map(|word| word.to_str()).collect();
-    match run(&words.unwrap_or_default()) {
+    let words: Vec<_> = arguments
+        .iter()
+        .map(|word| word.to_string_lossy())
+        .collect();
+    let words: Vec<&str> = words.iter().map(|word| word.as_ref()).collect();
+    let done = match words[..] {
+        ["--help"] => writeln!(io::stdout(), "{USAGE}").map(|()| true),
+        _ => run(&words),
+    };
+    match done {
         Ok(true) => ExitCode::SUCCESS,
         Ok(false) => ExitCode::FAILURE,
         Err(error) => {
@@ -38,7 +46,6 @@ fn main() -> ExitCode {
 #[cfg(has_oracle)]
 fn run(arguments: &[&str]) -> io::Result<bool> {
     use replay_oracle::{compare, cover, fixed, generate, stream};
-    use std::io::Write;
     use std::path::Path;
 
     let mut output = io::stdout().lock();
@@ -68,10 +75,21 @@ fn run(arguments: &[&str]) -> io::Result<bool> {
             let told = fixed::write_drawn(Path::new(crates)).map_err(io::Error::other)?;
             output.write_all(told.as_bytes())?;
         }
-        _ => return Err(io::Error::other(USAGE)),
+        _ => return Err(called_wrongly(arguments)),
     }
     output.flush()?;
     Ok(true)
+}
+
+#[cfg(has_oracle)]
+fn called_wrongly(arguments: &[&str]) -> io::Error {
+    let found = match arguments {
+        [] => "nothing".into(),
+        words => format!("'{}'", words.join(" ").escape_debug()),
+    };
+    io::Error::other(format!(
+        "expected a mode with what it takes; found {found}\n{USAGE}"
+    ))
 }
 
 #[cfg(has_oracle)]

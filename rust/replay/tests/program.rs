@@ -15,13 +15,28 @@ fn command(mode: impl AsRef<OsStr>) -> Command {
 
 #[test]
 fn wrong_arguments() {
-    for mode in [&b"compares"[..], b"\xFF", b""] {
+    for (mode, found) in [
+        (&b"compares"[..], "compares"),
+        (b"compare", "compare"),
+        (b"\xFF", "\u{FFFD}"),
+        (b"", ""),
+    ] {
         let output = program::run(&mut command(OsStr::from_bytes(mode)), b"").unwrap();
         assert_eq!(output.status.code(), Some(1));
         assert!(output.stdout.is_empty());
-        let usage = b"replay_oracle: usage: replay_oracle MODE\n";
-        assert!(output.stderr.starts_with(usage));
+        let told = String::from_utf8(output.stderr).unwrap();
+        let wrong = "replay_oracle: expected a mode with what it takes; found";
+        let start = format!("{wrong} '{found}'\nusage: replay_oracle MODE\n");
+        assert!(told.starts_with(&start), "{told}");
     }
+}
+
+#[test]
+fn help() {
+    let output = program::run(&mut command("--help"), b"").unwrap();
+    assert_eq!(output.status.code(), Some(0));
+    assert!(output.stdout.starts_with(b"usage: replay_oracle MODE\n"));
+    assert!(output.stderr.is_empty());
 }
 
 #[test]

@@ -48,15 +48,17 @@ pub fn octet(words: &mut Words) -> Result<u8, Fault> {
 pub fn time(words: &mut Words) -> Result<Option<u64>, Fault> {
     let mut time = None;
     if words.take(TIME) {
-        let expected = "a time in microseconds below 2^64, such as 15000000, or 15000ms, or 15s";
+        let expected = "a time in microseconds below 2^64, such as 15000000, or with its unit: \
+            15000000us, 15000ms, 15s";
         time = Some(words.expect(expected, microseconds)?);
     } else if !words.at_end() {
         return Err(words.fault("'at' or the end of the line"));
     }
-    if !words.at_end() {
-        return Err(words.fault("the end of the line"));
+    match words.word() {
+        b"" => Ok(time),
+        b"us" | b"ms" | b"s" => Err(words.fault("the unit right behind its number, as in 15s")),
+        _ => Err(words.fault("the end of the line")),
     }
-    Ok(time)
 }
 
 /// The bytes up to the time or the end, perhaps none. `expected` is told where a word stands among
@@ -67,8 +69,7 @@ pub fn data(words: &mut Words, expected: &str) -> Result<Vec<u8>, Fault> {
         let word = words.word();
         match hex::word_bytes(word) {
             Ok(bytes) => data.extend(bytes),
-            // Letters alone were meant as a word.
-            Err(place) if place < word.len() && word.iter().all(u8::is_ascii_alphabetic) => {
+            Err(place) if place < word.len() && word.iter().all(in_words) => {
                 return Err(words.fault(expected));
             }
             Err(place) => return Err(bad_digit(words, place)),
@@ -108,6 +109,11 @@ pub fn decimal<T: FromStr>(word: &str) -> Option<T> {
 /// Exactly so many octets in one word.
 pub fn octets<const N: usize>(word: &str) -> Option<[u8; N]> {
     hex::word_bytes(word.as_bytes()).ok()?.try_into().ok()
+}
+
+/// What no data but words are written with.
+fn in_words(character: &u8) -> bool {
+    character.is_ascii_alphabetic() || *character == b'/'
 }
 
 fn bad_digit(words: &Words, place: usize) -> Fault {

@@ -2,6 +2,7 @@
 
 use record::{MOST_RECORDS, RECORD_BYTES};
 use std::env;
+use std::ffi::OsString;
 use std::io;
 use std::process::ExitCode;
 
@@ -51,9 +52,20 @@ fn main() -> ExitCode {
         [only] if only == "write" => write(),
         [only] if only == "read" => read(),
         [only] if only == "--help" => program::put(USAGE.as_bytes()),
-        _ => return program::called_wrongly(USAGE),
+        _ => return called_wrongly(&arguments),
     };
     program::status("trace", done)
+}
+
+fn called_wrongly(arguments: &[OsString]) -> ExitCode {
+    let (expected, found) = match arguments {
+        [first, second, ..] if first == "write" || first == "read" => {
+            ("no more arguments, as the input is standard input", second)
+        }
+        [first, ..] => ("write, read or --help alone", first),
+        [] => return program::called_wrongly("trace", "write, read or --help", None, USAGE),
+    };
+    program::called_wrongly("trace", expected, Some(found), USAGE)
 }
 
 fn write() -> io::Result<ExitCode> {

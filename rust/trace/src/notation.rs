@@ -44,6 +44,12 @@ pub fn states(word: &str) -> Option<[u8; 2]> {
     Some([place(&RECEIVE_STATES, receive)?, place(&SEND_STATES, send)?])
 }
 
+/// Whether a word was meant to name states: it has the mark between two of them, or is one that only one side has.
+pub fn meant_as_states(word: &[u8]) -> bool {
+    let mut all = RECEIVE_STATES.iter().chain(&SEND_STATES);
+    word.contains(&b'/') || all.any(|state| state.as_bytes() == word)
+}
+
 /// The segmentation that a word names, if it names any.
 pub fn kind(word: &str) -> Option<u8> {
     place(&KINDS, word)

@@ -7,8 +7,10 @@ use record::{Operation, Record, ABORT, RESPONSE};
 
 const OPERATIONS: &str =
     "an operation: write, read, dcf, reply, tick, ask, gather (or record, short)";
-const AFTER_SEQUENCE: &str = "states such as 'init', a kind ('expedited', 'initiate', 'segment', \
-    'complete'), 'response', 'abort', data in hex or 'at', in this order and each if wanted";
+const STATES: &str = "states: 'none', 'init' or 'valid' for both, or two with / between them, on \
+    receive 'none', 'init', 'valid' or 'error', on send 'none', 'init', 'valid' or 'request'";
+const AFTER_STATES: &str = "a kind ('expedited', 'initiate', 'segment', 'complete'), 'response', \
+    'abort', data in hex or 'at', in this order and each if wanted";
 
 /// An operation and all its data, up to the time or the end of the line.
 pub fn operation(words: &mut Words) -> Result<(Record<'static>, Vec<u8>), Fault> {
@@ -63,11 +65,16 @@ fn dcf(words: &mut Words) -> Result<Vec<u8>, Fault> {
 
 fn reply(words: &mut Words) -> Result<(Record<'static>, Vec<u8>), Fault> {
     let node = node(words)?;
-    let sequence = sequence(words)?;
+    let octets = words.take("seq");
+    let sequence = if octets {
+        [octet(words)?, octet(words)?]
+    } else {
+        sequence(words)?
+    };
     let (flags, data) = if words.take("flags") {
         (octet(words)?, data(words, DATA)?)
     } else {
-        flags_and_data(words)?
+        flags_and_data(words, octets)?
     };
     let record = Record {
         index: u16::from_le_bytes(sequence),
@@ -77,11 +84,8 @@ fn reply(words: &mut Words) -> Result<(Record<'static>, Vec<u8>), Fault> {
     Ok((record, data))
 }
 
-/// The octets 0 and 1 of the sequence header, given as they are or in words.
+/// The octets 0 and 1 of the sequence header, given in words.
 fn sequence(words: &mut Words) -> Result<[u8; 2], Fault> {
-    if words.take("seq") {
-        return Ok([octet(words)?, octet(words)?]);
-    }
     if !words.take("answers") {
         return Err(words.fault("'answers' and a sequence number, or 'seq' and two octets"));
     }
@@ -90,21 +94,34 @@ fn sequence(words: &mut Words) -> Result<[u8; 2], Fault> {
         return Err(words.fault("'number' and the reply's own sequence number"));
     }
     let number = fields::number(words)?;
-    let [receive, send] = words.take_as(notation::states).unwrap_or(USUAL_STATES);
+    let [receive, send] = states(words)?;
     Ok([
         notation::octet(answers, receive),
         notation::octet(number, send),
     ])
 }
 
+fn states(words: &mut Words) -> Result<[u8; 2], Fault> {
+    match words.take_as(notation::states) {
+        Some(states) => Ok(states),
+        None if notation::meant_as_states(words.word()) => Err(words.fault(STATES)),
+        None => Ok(USUAL_STATES),
+    }
+}
+
 /// The flags of a reply in words, and its data, which begin with the code where an abort has one.
-fn flags_and_data(words: &mut Words) -> Result<(u8, Vec<u8>), Fault> {
+fn flags_and_data(words: &mut Words, octets: bool) -> Result<(u8, Vec<u8>), Fault> {
     let mut flags = words.take_as(notation::kind).unwrap_or(0) * KIND_UNIT;
     if words.take("response") {
         flags |= RESPONSE;
     }
     if !words.take("abort") {
-        return Ok((flags, data(words, AFTER_SEQUENCE)?));
+        let states = if octets {
+            ""
+        } else {
+            "states such as 'init', "
+        };
+        return Ok((flags, data(words, &format!("{states}{AFTER_STATES}"))?));
     }
     flags |= ABORT;
     let mut payload = vec![];

@@ -14,6 +14,16 @@ pub struct Fault {
     pub found: String,
 }
 
+impl Fault {
+    pub fn new(column: usize, expected: &str, found: impl Into<String>) -> Self {
+        Self {
+            column,
+            expected: expected.into(),
+            found: found.into(),
+        }
+    }
+}
+
 impl fmt::Display for Fault {
     fn fmt(&self, f: &mut fmt::Formatter<'_>) -> fmt::Result {
         let Self {
@@ -100,11 +110,7 @@ impl<'a> Words<'a> {
 
     /// The same, where something else than the next word is to be told.
     pub fn fault_found(&self, expected: &str, found: String) -> Fault {
-        Fault {
-            column: self.column,
-            expected: expected.into(),
-            found,
-        }
+        Fault::new(self.column, expected, found)
     }
 
     /// A place within the next word, or its end, is not what was expected.
@@ -114,11 +120,7 @@ impl<'a> Words<'a> {
             Some(character) => quoted(character.to_string().as_bytes()),
             None => "the end of the word".into(),
         };
-        Fault {
-            column: self.column + place,
-            expected: expected.into(),
-            found,
-        }
+        Fault::new(self.column + place, expected, found)
     }
 
     fn skip_space(&mut self) {

@@ -7,9 +7,6 @@ use record::{Operation, Record, MOST_DATA, RECORD_BYTES};
 use std::fmt;
 use std::ops::RangeInclusive;
 
-/// What some editors put in front of a text.
-const BYTE_ORDER_MARK: &[u8] = b"\xEF\xBB\xBF";
-
 /// A line that could not be taken.
 #[derive(Debug, PartialEq, Eq)]
 pub struct Bad {
@@ -25,15 +22,14 @@ impl fmt::Display for Bad {
 
 /// The records of a text, or every line of it that could not be taken.
 pub fn write(text: &[u8]) -> Result<Vec<u8>, Vec<Bad>> {
-    let text = text.strip_prefix(BYTE_ORDER_MARK).unwrap_or(text);
+    let Some(text) = program::text(text) else {
+        let fault = Fault::new(1, "a text in UTF-8", "UTF-16");
+        return Err(vec![Bad { line: 1, fault }]);
+    };
     let mut writer = Writer::default();
     let mut bad = Vec::new();
     for (place, line) in text.split(|&byte| byte == b'\n').enumerate() {
-        let mut words = Words::of(line);
-        if words.at_end() {
-            continue;
-        }
-        if let Err(fault) = writer.line(&mut words) {
+        if let Err(fault) = writer.line(line) {
             let line = place + 1;
             bad.push(Bad { line, fault });
         }
@@ -42,6 +38,17 @@ pub fn write(text: &[u8]) -> Result<Vec<u8>, Vec<Bad>> {
         Ok(writer.trace)
     } else {
         Err(bad)
+    }
+}
+
+/// A text whose lines end in CR alone would be one line, and nothing but a comment where it begins with one.
+fn one_line(line: &[u8]) -> Result<(), Fault> {
+    match line.trim_ascii_end().iter().position(|&byte| byte == b'\r') {
+        None => Ok(()),
+        Some(place) => {
+            let expected = "lines that end in LF or CRLF";
+            Err(Fault::new(place + 1, expected, "CR alone"))
+        }
     }
 }
 
@@ -55,7 +62,12 @@ struct Writer {
 }
 
 impl Writer {
-    fn line(&mut self, words: &mut Words) -> Result<(), Fault> {
+    fn line(&mut self, line: &[u8]) -> Result<(), Fault> {
+        one_line(line)?;
+        let words = &mut Words::of(line);
+        if words.at_end() {
+            return Ok(());
+        }
         if self.short {
             return Err(words.fault("nothing after a short record"));
         }

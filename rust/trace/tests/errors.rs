@@ -52,13 +52,22 @@ const BAD: &[(&str, &str)] = &[
     ),
     (
         "tick at",
-        "column 8: expected a time in microseconds below 2^64, such as 15000000, or 15000ms, \
-         or 15s; found the end of the line",
+        "column 8: expected a time in microseconds below 2^64, such as 15000000, or with its \
+         unit: 15000000us, 15000ms, 15s; found the end of the line",
     ),
     (
         "tick at 18446744073709551616",
-        "column 9: expected a time in microseconds below 2^64, such as 15000000, or 15000ms, \
-         or 15s; found '18446744073709551616'",
+        "column 9: expected a time in microseconds below 2^64, such as 15000000, or with its \
+         unit: 15000000us, 15000ms, 15s; found '18446744073709551616'",
+    ),
+    (
+        "tick at 5min",
+        "column 9: expected a time in microseconds below 2^64, such as 15000000, or with its \
+         unit: 15000000us, 15000ms, 15s; found '5min'",
+    ),
+    (
+        "tick at 15 s",
+        "column 12: expected the unit right behind its number, as in 15s; found 's'",
     ),
     (
         "tick at 5 6",
@@ -80,6 +89,30 @@ const BAD: &[(&str, &str)] = &[
     (
         "reply 5 answers 0 init",
         "column 19: expected 'number' and the reply's own sequence number; found 'init'",
+    ),
+    (
+        "reply 5 answers 0 number 0 init/initt",
+        "column 28: expected states: 'none', 'init' or 'valid' for both, or two with / between \
+         them, on receive 'none', 'init', 'valid' or 'error', on send 'none', 'init', 'valid' or \
+         'request'; found 'init/initt'",
+    ),
+    (
+        "reply 5 answers 0 number 0 request/valid",
+        "column 28: expected states: 'none', 'init' or 'valid' for both, or two with / between \
+         them, on receive 'none', 'init', 'valid' or 'error', on send 'none', 'init', 'valid' or \
+         'request'; found 'request/valid'",
+    ),
+    (
+        "reply 5 answers 0 number 0 error",
+        "column 28: expected states: 'none', 'init' or 'valid' for both, or two with / between \
+         them, on receive 'none', 'init', 'valid' or 'error', on send 'none', 'init', 'valid' or \
+         'request'; found 'error'",
+    ),
+    (
+        "reply 5 seq 01 01 init/valid",
+        "column 19: expected a kind ('expedited', 'initiate', 'segment', 'complete'), \
+         'response', 'abort', data in hex or 'at', in this order and each if wanted; found \
+         'init/valid'",
     ),
     (
         "reply 5 answers 0 number 0 complete init",
@@ -142,6 +175,22 @@ fn every_bad_line_is_told() {
     assert_eq!(told.len(), 2);
     assert!(told[0].starts_with("line 2, column 5: "));
     assert!(told[1].starts_with("line 5, column 6: "));
+}
+
+#[test]
+fn lines_that_end_in_cr_alone() {
+    let expected = "line 1, column 10: expected lines that end in LF or CRLF; found CR alone";
+    assert_eq!(told("# comment\rask\rask\r"), [expected]);
+}
+
+#[test]
+fn a_text_in_utf_16() {
+    for text in [&b"\xFF\xFEa\0s\0k\0\n\0"[..], b"\xFE\xFF\0a\0s\0k\0\n"] {
+        let bad = trace::write(text).unwrap_err();
+        let told: Vec<_> = bad.iter().map(ToString::to_string).collect();
+        let expected = "line 1, column 1: expected a text in UTF-8; found UTF-16";
+        assert_eq!(told, [expected]);
+    }
 }
 
 #[test]

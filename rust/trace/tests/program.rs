@@ -1,5 +1,6 @@
 //! The program: its arguments, exit status and streams.
 
+use std::fs::File;
 use std::io::Write;
 use std::process::{Command, Output, Stdio};
 
@@ -66,10 +67,42 @@ fn the_programs_arguments() {
     let help = run(&["--help"], b"");
     assert_eq!(help.status.code(), Some(0));
     assert!(help.stdout.starts_with(b"usage: trace write"));
-    for arguments in [&[][..], &["wirte"], &["write", "file"]] {
+    let more = "no more arguments, as the input is standard input; found";
+    for (arguments, wrong) in [
+        (&[][..], "write, read or --help; found nothing".into()),
+        (
+            &["wirte"],
+            "write, read or --help alone; found 'wirte'".into(),
+        ),
+        (
+            &["--help", "write"],
+            "write, read or --help alone; found '--help'".into(),
+        ),
+        (&["write", "file"], format!("{more} 'file'")),
+        (&["read", "write"], format!("{more} 'write'")),
+    ] {
         let output = run(arguments, b"");
         assert_eq!(output.status.code(), Some(2));
         assert!(output.stdout.is_empty());
-        assert_eq!(output.stderr, help.stdout);
+        let told = String::from_utf8(output.stderr).unwrap();
+        let usage = "usage: trace write < LINES > RECORDS\n       trace read  < RECORDS > LINES\n\
+                     trace --help tells more\n";
+        assert_eq!(told, format!("trace: expected {wrong}\n{usage}"));
     }
+}
+
+/// A folder can be opened, and not read; a full disk takes nothing.
+#[test]
+fn streams_that_fail() {
+    let mut unread = command(&["write"]);
+    let folder = File::open("/").unwrap();
+    let output = unread.stdin(folder).output().unwrap();
+    assert_eq!(output.status.code(), Some(2));
+    assert!(output.stderr.starts_with(b"trace: standard input: "));
+    let mut unwritten = command(&["read"]);
+    let full = File::options().write(true).open("/dev/full").unwrap();
+    unwritten.stdin(Stdio::from(File::open("Cargo.toml").unwrap()));
+    let output = unwritten.stdout(full).output().unwrap();
+    assert_eq!(output.status.code(), Some(2));
+    assert!(output.stderr.starts_with(b"trace: standard output: "));
 }

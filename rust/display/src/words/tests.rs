@@ -180,12 +180,26 @@ fn tones() {
 }
 
 #[test]
-fn bytes_after_the_command_are_not_shown() {
+fn zeros_after_the_command_are_not_shown() {
+    let ahead = "Nil           Expedited              0 bytes  transaction   1";
+    sent("0001 0000 0000 0000 00000000", ahead, "");
+}
+
+#[test]
+fn octets_after_the_command_are_told() {
+    let told = "4 octets after it not shown";
     sent(
-        "0001 0000 0000 0000 00000000",
+        "0001 0000 0000 0000 00000001",
         "Nil           Expedited              0 bytes  transaction   1",
-        "",
+        told,
     );
+    sent(
+        "0001 4001 0500 0000 09000000 0021010005 FFFFFFFF",
+        "WriteByIndex  Initiate   2100:01     5 bytes  transaction   1",
+        &format!("data size 9, data 05, {told}"),
+    );
+    let row = command_shown(Way::To(5), "0001 0000 0000 0000 FF").unwrap();
+    assert_eq!(row.tone, Tone::Trouble);
 }
 
 #[test]

@@ -1,5 +1,5 @@
 -- `manager::plan::plan_turn` meets its contract: 9, 1, and then the first connection that does not rest.
-use mathlib.Core.Path.{refl, _∙_}
+use mathlib.Core.Path.{_∙_}
 use Rattle.laws.proofs.Answers.{told}
 use Rattle.laws.proofs.Picks.{below, is, is-not, not-below}
 use Rattle.manager.specs.Plan.{planAt, turnPlan}

@@ -1,21 +1,17 @@
 -- What tick gives is an abort, or the last command that ask gave the node since its job's start: the command outstanding is always that one, with the
--- payload that its room still says. And the output behind what ask or tick gives is as it was.
-use Prim.Native.Nat.{ℕ, _≤_}
-use native.Mathlib.Omega.{arith}
-use mathlib.Core.Path.{_≡_, refl, sym, _∙_, ap, subst}
+-- payload that its room still says.
+use Prim.Native.Nat.{ℕ}
+use mathlib.Core.Path.{_≡_, refl, sym, ap, subst}
 use mathlib.Core.Bool.{true}
 use mathlib.Core.List.{List, [], _∷_}
 use mathlib.Core.Logic.{_⊎_, inl, inr}
 use lib.Dec.{eqb}
-use lib.ListN.{length, drop, getD}
-use lib.Seq.{drop-at}
-use borrow.Author.Tests.{eq-eqb, le-leb, ne-eqb}
+use lib.ListN.{length}
+use borrow.Author.Tests.{eq-eqb, ne-eqb}
 use Rattle.laws.specs.Pick.{pick}
 use Rattle.laws.proofs.Choices.{decided}
 use Rattle.codec.specs.Bytes.{Bytes, placed}
-use Rattle.codec.specs.Writing.{bufferAfter}
 use Rattle.con_rec.specs.Commands.{commandOf, sequenceOf}
-use Rattle.con_rec.specs.Parts.{most}
 use Rattle.con_rec.specs.Payload.{payloadOf}
 use Rattle.con_rec.specs.Record.{endOf}
 use Rattle.con_reply.proofs.ReplyCases.{ReplyView, aborted, again as same-number, other, reply-view, taken, unasked, wrong}
@@ -24,12 +20,11 @@ use Rattle.connection.proofs.TurnView.{AskView, TickView, again, ask-view, earl
 use Rattle.connection.specs.Ask.{askOf}
 use Rattle.connection.proofs.TickLaws.{AgainOrAbort, Ticked, tick-leaves}
 use Rattle.connection.specs.Tick.{tickOf}
-use Rattle.manager.specs.Calls.{After, Call, called, jobRoom, outputSize, replies, roomIn, starts, turns}
-use Rattle.man_table.specs.Table.{blank, live, newManager}
+use Rattle.manager.specs.Calls.{After, Call, jobRoom, replies, starts, turns}
+use Rattle.man_table.specs.Table.{newManager}
 use Rattle.man_table.specs.Walk.{atTurn}
 use Rattle.theorems.specs.Quiet.{Holding, connection, holding, nothing}
-use Rattle.theorems.specs.Run.{Event, Host, Lends, another, made, next, own, reached, run}
-use Rattle.theorems.specs.Sizes.{IsTurn, Sizes}
+use Rattle.theorems.specs.Run.{Event, Host, made, next, reached, run}
 use Rattle.theorems.specs.Sound.{Reached, Sound}
 use Rattle.theorems.specs.Story.{Gave, command, none}
 use Rattle.theorems.specs.TickGives.{TickGives, lastAfter, lastBy, orElse}
@@ -41,7 +36,6 @@ use Rattle.theorems.specs.Types.{
   Outgoing,
   Outstanding,
   SdoClientConnection as Connection,
-  SdoClientManager as Manager,
   SdoCommand,
   Sends,
   SequenceLayerHeader,
@@ -50,14 +44,11 @@ use Rattle.theorems.specs.Types.{
   Turn,
 }
 use Rattle.theorems.proofs.AllReached.{all-sound, event-sound, new-sound}
-use Rattle.theorems.proofs.Cases.{Of, Shown, reply-by, turn-by}
-use Rattle.theorems.proofs.Followed.{Clear, clear-in}
+use Rattle.theorems.proofs.JobKept.{Clear, clear-in}
 use Rattle.theorems.proofs.JobStarts.{began}
-use Rattle.theorems.proofs.NodeView.{Apart, NodeView, answers, begins, event-view, gaveBy, idles, rests, steps, unknown}
-use Rattle.theorems.proofs.StartBy.{start-by}
+use Rattle.theorems.proofs.NodeView.{Apart, NodeView, answers, begins, gaveBy, idles, rests, steps, unknown}
+use Rattle.theorems.proofs.NodeSees.{event-view}
 use Rattle.theorems.proofs.Tracked.{heldAfter}
-use Rattle.theorems.proofs.WalkSteps.{WalkSized, walk-sized}
-use Rattle.theorems.proofs.WrongStore.{wrong-store}
 
 -- ---- the command outstanding is the last that ask gave
 abbrev Echo : Gave → Outstanding → Bytes → Type 0
@@ -233,52 +224,3 @@ tick-gives lent events now lends output s e =
     let said = call-ticks (s .node) _ (event-view host (all-sound lent events) (s .node) x)
     (run-echo (s .node) events none (record { manager = newManager; store = lent }) (new-sound lent) tt) in
     rw (e, eq-eqb (s .node) (s .node) refl) at said
-
--- ---- sizes
-module _ (output : Bytes) (x : Call) where
-  abbrev SizedFor : Bytes → Answer → Type 0
-  SizedFor out Answer.Nothing = Unit {0}
-  SizedFor out (Answer.Sent s) =
-      IsTurn x
-      × (s .command .header .«segment_size» ≤ most)
-      × (drop (s .command .header .«segment_size») out ≡ drop (s .command .header .«segment_size») output)
-  SizedFor out (Answer.Refused r) = Unit {0}
-
-  abbrev SizedAs : Shown
-  SizedAs k store out a es = SizedFor out a
-
-fills : (output room : Bytes) (o : Outgoing) → outputSize ≤ length output → (length (payloadOf room o) ≡ commandOf o .header .«segment_size»)
-    → commandOf o .header .«segment_size» ≤ most
-    → drop (commandOf o .header .«segment_size») (bufferAfter (payloadOf room o) output) ≡ drop (commandOf o .header .«segment_size») output
-unfolding bufferAfter pick
-fills output room o long is few =
-    let fits : length (payloadOf room o) ≤ length output = omega arith in
-    rw (le-leb (length (payloadOf room o)) (length output) fits)
-    (drop-at (payloadOf room o) (drop (length (payloadOf room o)) output) (commandOf o .header .«segment_size») is
-    ∙ ap (λ (n : ℕ). drop n output) is)
-
-call-sizes : (m : Manager) (store output : Bytes) → Sound m store → (x : Call) → Of (SizedAs output x) (called m store output x)
-call-sizes m store output sound (starts node job n) =
-    start-by m node job n store output (SizedAs output (starts node job n)) (λ r e. tt) (λ r e k f. tt) (λ k d long at e. tt)
-    (λ d long unheld few e. tt) (λ r e f unheld few. tt)
-call-sizes m store output sound (turns t n) =
-    turn-by t m n store output (SizedAs output (turns t n)) (λ r. tt) (λ l long fits e. tt)
-    (λ k o l long fits e.
-    let z = subst (WalkSized store) e (walk-sized t n store (live m) (sound .each)) in
-    (tt, z .1, fills output (roomIn store (getD l k blank)) o fits (z .0) (z .1)))
-call-sizes m store output sound (replies node seq cmd payload) =
-    reply-by m node seq cmd payload store output (SizedAs output (replies node seq cmd payload)) (λ r. tt) (λ unheld. tt) (λ k d long at e. tt)
-
-pub sizes : Sizes
-unfolding Sizes Reached
-sizes lent events x s e =
-    subst (SizedFor (x .output) (x .call) (made host x .output)) e (go (x .lends))
-  where
-    host : Host
-    host = reached lent events
-
-    go : (l : Lends)
-        → let a : After = made host (record { call = x .call; lends = l; output = x .output }) in
-        SizedFor (x .output) (x .call) (a .output) (a .done .answer)
-    go own = call-sizes (host .manager) (host .store) (x .output) (all-sound lent events) (x .call)
-    go (another store differs) = rw (wrong-store (host .manager) store (x .output) (x .call) differs) tt

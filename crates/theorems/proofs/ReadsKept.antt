@@ -36,7 +36,7 @@ use Rattle.theorems.specs.Types.{
   Sends,
   Transfer,
 }
-use Rattle.theorems.proofs.Followed.{Breaks, Decides, Ending, Kept, Leaves, MayWait, Running, opens}
+use Rattle.theorems.proofs.JobKept.{Breaks, Decides, Ending, Kept, Leaves, MayWait, Running, opens}
 use Rattle.theorems.proofs.NodeView.{gaveBy}
 
 -- ---- a read has no entries, so none is wholly sent

@@ -36,7 +36,7 @@ use Rattle.theorems.specs.Types.{
   SequenceLayerHeader,
   Transfer,
 }
-use Rattle.theorems.proofs.Followed.{Breaks, Decides, Ending, Kept, Leaves, LeavesBy, MayWait, Running, opens}
+use Rattle.theorems.proofs.JobKept.{Breaks, Decides, Ending, Kept, Leaves, LeavesBy, MayWait, Running, opens}
 
 -- ---- the last piece is its entry, whole
 wholly-last : (before : List Bytes) (w : Bytes) (more : List Bytes) (p : Bytes)

@@ -1,7 +1,7 @@
 -- What tick gives is an abort, or the last command that ask gave the node since its job's start: the command outstanding is always that one, with the
 -- payload that its room still says.
 use Prim.Native.Nat.{ℕ}
-use mathlib.Core.Path.{_≡_, refl, sym, ap, subst}
+use mathlib.Core.Path.{_≡_, refl, sym, _∙_, ap, subst}
 use mathlib.Core.Bool.{true}
 use mathlib.Core.List.{List, [], _∷_}
 use mathlib.Core.Logic.{_⊎_, inl, inr}
@@ -27,7 +27,7 @@ use Rattle.theorems.specs.Quiet.{Holding, connection, holding, nothing}
 use Rattle.theorems.specs.Run.{Event, Host, made, next, reached, run}
 use Rattle.theorems.specs.Sound.{Reached, Sound}
 use Rattle.theorems.specs.Story.{Gave, command, none}
-use Rattle.theorems.specs.TickGives.{TickGives, lastAfter, lastBy, orElse}
+use Rattle.theorems.specs.TickGives.{TickGives, lastAfter, lastBy, orElse, unlessAnswered}
 use Rattle.theorems.specs.Types.{
   Answer,
   Decision,
@@ -102,22 +102,34 @@ module _ (last : Gave) (c : Connection) (room : Bytes) (h : Echoes last c room) 
       go (late e k r l) = tt
 
   module _ (seq : SequenceLayerHeader) (cmd : SdoCommand) (payload : Bytes) where
+    abbrev after : Gave
+    after = unlessAnswered Answer.Nothing seq last
+
     abbrev EchoDecided : Decision → Type 0
-    EchoDecided (Decision.Keeps d) = Echoes last d room
-    EchoDecided (Decision.Stores d from) = Echoes last d (placed room from payload)
+    EchoDecided (Decision.Keeps d) = Echoes after d room
+    EchoDecided (Decision.Stores d from) = Echoes after d (placed room from payload)
     EchoDecided Decision.NoRoom = Unit {0}
 
     cleared-echo : (x : Decision) → Clear x → EchoDecided x
-    cleared-echo (Decision.Keeps d) e = echo-free last _ room e
-    cleared-echo (Decision.Stores d from) e = echo-free last _ _ e
+    cleared-echo (Decision.Keeps d) e = echo-free after _ room e
+    cleared-echo (Decision.Stores d from) e = echo-free after _ _ e
     cleared-echo Decision.NoRoom e = tt
+
+    -- a reply to another command leaves the last one
+    ignored : (o : Outgoing) → c .waiting .«last_sent_command» ≡ Outstanding.Waits o → (seq .«receive_sequence_number» ≡ o .send → ⊥)
+        → Echoes after c room
+    unfolding pick
+    ignored o e ne =
+        let is : last ≡ command (sequenceOf o) (commandOf o) (payloadOf room o) = subst (λ (y : Outstanding). Echo last y room) e h in
+        subst (λ (y : Outstanding). Echo after y room) (sym e)
+        (ap (unlessAnswered Answer.Nothing seq) is ∙ rw (ne-eqb (seq .«receive_sequence_number») (o .send) ne) refl)
 
     reply-echo : EchoDecided (replyOf seq cmd payload c room)
     reply-echo = go (reply-view seq cmd payload c room)
       where
         go : {x : Decision} → ReplyView seq cmd payload c room x → EchoDecided x
-        go (unasked e) = h
-        go (other e f) = h
+        go (unasked e) = echo-free after _ room e
+        go (other {o} e f) = ignored o e f
         go (same-number f g) = tt
         go (wrong f g) = tt
         go (aborted f g a) = tt
@@ -126,7 +138,7 @@ module _ (last : Gave) (c : Connection) (room : Bytes) (h : Echoes last c room) 
             (replyIn (c .state) seq (cmd .header .segmentation) (cleared c (seq .«send_sequence_number»)) (length payload) room)
             (clear-in c (seq .«send_sequence_number») (length payload) room seq (cmd .header .segmentation))
 
-    taken-echo : (x : Decision) → EchoDecided x → EchoTaken last (roomAfter x payload room) (replied x)
+    taken-echo : (x : Decision) → EchoDecided x → EchoTaken after (roomAfter x payload room) (replied x)
     taken-echo (Decision.Keeps d) e = e
     taken-echo (Decision.Stores d from) e = e
     taken-echo Decision.NoRoom e = tt
@@ -142,10 +154,15 @@ module _ (node : ℕ) where
       decided (λ (g : Gave). g ≡ last) (eqb k node) _ _ (λ e. refl) (λ e. refl)
   apart-last last (turns Turn.Asking n) a p = refl
   apart-last last (turns Turn.Ticking n) a p = refl
-  apart-last last (replies k seq cmd payload) a p = refl
+  apart-last last (replies k seq cmd payload) a (inl ne) = rw (ne-eqb k node ne) refl
+  apart-last last (replies k seq cmd payload) Answer.Nothing (inr p) = absurd p
+  apart-last last (replies k seq cmd payload) (Answer.Sent s) (inr p) = absurd p
+  apart-last last (replies k seq cmd payload) (Answer.Refused r) (inr p) =
+      decided (λ (g : Gave). g ≡ last) (eqb k node) _ _ (λ e. refl) (λ e. refl)
 
   call-echo : (last : Gave) {h : Holding} {x : Call} {a : Answer} {g : Gave} {e : EndFound} {i : Holding} {b : Bytes}
       → NodeView node h x a g e i b → EchoHeld last h → EchoHeld (lastBy node last x a g) i
+  unfolding pick
   call-echo last (rests {h} {x} {a} p) k = subst (λ (g : Gave). EchoHeld g h) (sym (apart-last last x a p)) k
   call-echo last unknown k = tt
   call-echo last (begins {h} {job} {n} {d} c t room seat e) k =
@@ -158,9 +175,10 @@ module _ (node : ℕ) where
       go Turn.Asking f = echo-after _ d room (subst (EchoStep last c room k Turn.Asking) f (ask-echo last c room k n))
       go Turn.Ticking f = echo-after last d room (subst (EchoStep last c room k Turn.Ticking) f (tick-echo last c room k n))
   call-echo last (answers {seq} {cmd} {payload} {c} {d} {room} e) k =
-      echo-after last d _
-      (subst (EchoTaken last (roomAfter (replyOf seq cmd payload c room) payload room)) e
-      (taken-echo last c room k seq cmd payload (replyOf seq cmd payload c room) (reply-echo last c room k seq cmd payload)))
+      rw (eq-eqb node node refl)
+      (echo-after (unlessAnswered Answer.Nothing seq last) d _
+      (subst (EchoTaken (unlessAnswered Answer.Nothing seq last) (roomAfter (replyOf seq cmd payload c room) payload room)) e
+      (taken-echo last c room k seq cmd payload (replyOf seq cmd payload c room) (reply-echo last c room k seq cmd payload))))
 
   run-echo : (xs : List Event) (last : Gave) (h : Host) → Sound (h .manager) (h .store) → EchoHeld last (holding (h .manager) (h .store) node)
       → EchoHeld (lastAfter node last h xs) (holding (run h xs .manager) (run h xs .store) node)

@@ -1,5 +1,5 @@
--- What tick gives is an abort, or a timeout repeat: the last command that ask gave that node since its job's start, with the same sequence header, the
--- same command and the same payload bytes. So of what tick gives, demand 3 drops just what it says to drop.
+-- What tick gives is an abort, or a timeout repeat: the last command that ask gave that node since its job's start, not answered since, with the same
+-- sequence header, the same command and the same payload bytes. So of what tick gives, demand 3 drops just what it says to drop.
 use Prim.Native.Nat.{ℕ}
 use mathlib.Core.Path.{_≡_}
 use mathlib.Core.Bool.{true}
@@ -13,7 +13,7 @@ use Rattle.manager.specs.Calls.{After, Call, replies, starts, turns}
 use Rattle.man_table.specs.Table.{newManager}
 use Rattle.theorems.specs.Run.{Event, Host, Lends, made, next, reached}
 use Rattle.theorems.specs.Story.{Gave, command, gaveTo, none}
-use Rattle.theorems.specs.Types.{Answer, Now, SentTo, Turn}
+use Rattle.theorems.specs.Types.{Answer, Now, SentTo, SequenceLayerHeader, Turn}
 
 -- a start that is taken begins anew
 abbrev pub unlessTaken : Answer → Gave → Gave
@@ -25,12 +25,20 @@ abbrev pub orElse : Gave → Gave → Gave
 orElse none last = last
 orElse (command seq cmd payload) last = command seq cmd payload
 
--- the last command that ask gave a node since its job's start, after one call more
+-- a reply whose receive number is the command's answers it; a refused reply has not happened
+abbrev pub unlessAnswered : Answer → SequenceLayerHeader → Gave → Gave
+unlessAnswered Answer.Nothing seq none = none
+unlessAnswered Answer.Nothing seq (command h cmd payload) =
+    pick (eqb (seq .«receive_sequence_number») (h .«send_sequence_number»)) none (command h cmd payload)
+unlessAnswered (Answer.Sent s) seq last = last
+unlessAnswered (Answer.Refused r) seq last = last
+
+-- the last command that ask gave a node since its job's start and that was not answered, after one call more
 abbrev pub lastBy : ℕ → Gave → Call → Answer → Gave → Gave
 lastBy node last (starts k job n) x g = pick (eqb k node) (unlessTaken x last) last
 lastBy node last (turns Turn.Asking n) x g = orElse g last
 lastBy node last (turns Turn.Ticking n) x g = last
-lastBy node last (replies k seq cmd payload) x g = last
+lastBy node last (replies k seq cmd payload) x g = pick (eqb k node) (unlessAnswered x seq last) last
 
 abbrev pub lastAfter : ℕ → Gave → Host → List Event → Gave
 lastAfter node last h [] = last

@@ -3,25 +3,27 @@
 SHELL = /bin/bash
 .SHELLFLAGS = -o pipefail -c
 
-.PHONY: test replay lib display trace capture compare dissect bench
+.PHONY: test replay values lib display trace capture compare dissect bench
 
 test:
 	bash .ci/run
 
-# The replay, proved and built: document 01's run, or the trace that TRACE names, records or (in a file named .txt) readable lines.
-TRACE = traces/document01.trace
-replay:
-	@[ -r '$(TRACE)' ] && [ ! -d '$(TRACE)' ] || { echo "replay: there is no file $(TRACE), or it cannot be read" >&2; exit 1; }
-	@rt check replay 1>&2
+# The replay of a trace, and the values that its reads brought, proved and built: document 01's run and traces/values.txt, or the trace that
+# TRACE names, records or (in a file named .txt) readable lines.
+replay: TRACE = traces/document01.trace
+values: TRACE = traces/values.txt
+replay values:
+	@[ -r '$(TRACE)' ] && [ ! -d '$(TRACE)' ] || { echo "$@: there is no file $(TRACE), or it cannot be read" >&2; exit 1; }
+	@rt check $@ 1>&2
 	@tests/programs
-	@case '$(TRACE)' in *.txt) $(MAKE) -s trace < '$(TRACE)' | target/run/replay ;; *) target/run/replay < '$(TRACE)' ;; esac
+	@case '$(TRACE)' in *.txt) $(MAKE) -s trace < '$(TRACE)' | target/run/$@ ;; *) target/run/$@ < '$(TRACE)' ;; esac
 
 # The static library for C and Rust on x86-64: target/staticlib/libostelumiv.a, with include/ostelumiv.h.
 lib:
 	@tests/library 1>&2
 
-# Frames as hex on standard input, one a line, shown in words; with DO=replay, the lines that the replay printed; with DO=--help, how
-# (docs/TRACES.md).
+# Frames as hex on standard input, one a line, shown in words; with DO=replay or DO=values, the lines that these printed; with DO=--help,
+# how (docs/TRACES.md).
 display: DO =
 display: lib
 	@cd rust && ../tests/x86-64 cargo run --release --offline --quiet -p display -- $(DO)
@@ -39,15 +41,16 @@ capture:
 	@cd rust && cargo build --release --offline --quiet -p capture
 	@rust/target/release/capture $(DO)
 
-# The whole client against the repository's: RECORDS records drawn, every line and state compared, and how often each rule was reached;
-# the replay of traces/ held to their lines, and random bytes through it.
+# The whole client against the repository's: RECORDS records drawn, every line, state and value compared, and how often each rule was reached;
+# the replay and values of traces/ held to their lines, and random bytes through both.
 RECORDS = 1000000
 compare:
-	@rt check replay replay_states 1>&2
+	@rt check replay replay_states values 1>&2
 	@tests/programs
 	@cd rust && cargo build --release --offline --quiet -p trace -p replay_oracle
 	@tests/traces
 	@tests/random
+	@tests/values
 	@rust/target/release/replay_oracle compare $(RECORDS)
 
 # What Wireshark's dissector reads in the frames that the client sends, held to what was sent: those of the file that LINES names, which

@@ -35,7 +35,10 @@ pub fn hex(n: u64, digits: usize)
     io::print_hex(STDOUT_FILENO, n, digits);
 }
 
-fn octets(b: &[u8]) {
+// Bytes in hex.
+pub fn octets(b: &[u8])
+    ensures { λ _. ⊤ₛ }
+{
     let mut i: usize = 0;
     while i < b.len() {
         hex(wide(b[i]), 2);

@@ -1,12 +1,17 @@
-// A simulated cell: a pressure transmitter's SDO server, as much of it as a load needs. Its objects are a table in memory: a write to one of
-// them is kept there, and every command is acknowledged.
+// A simulated cell: a pressure transmitter's SDO server, as much of it as a load and a read need. Its objects are a table in memory: a write to
+// one of them is kept there, a read of one is answered with what it was given, four bytes at most, and a read of any other is aborted. Every other command is
+// acknowledged.
 ghost use Prim.Native.Nat.{_<_};
 use codec::command::CommandId;
 use codec::command::CommandLayerHeader;
 use codec::command::DataSize;
 use codec::command::SdoCommand;
 use codec::command::Segmentation;
+use codec::octets::FourOctets;
+use codec::octets::octets32;
 use codec::octets::part;
+use codec::request::ReadByIndexRead;
+use codec::request::ReadByIndexRequest;
 use codec::request::WriteByIndexRead;
 use codec::request::WriteByIndexRequest;
 use codec::sequence::ReceiveConnState;
@@ -27,12 +32,24 @@ pub(crate) struct Cell {
     pub second: Object,
 }
 
-// What the cell answers: its table after the command, and the headers of the reply, which carries no data.
+// What the cell answers: its table after the command, the headers of the reply, and its data, of which the reply carries as many bytes as its
+// segment size says.
 pub(crate) struct Reply {
     pub cell: Cell,
     pub sequence: SequenceLayerHeader,
     pub command: SdoCommand,
+    pub data: FourOctets,
 }
+
+// The data that a reply carries: how many of the four bytes, and whether they are the code of an abort.
+struct Carried {
+    data: FourOctets,
+    bytes: u16,
+    is_aborted: bool,
+}
+
+// EPSG DS 301's code for an object that is not there.
+const NO_SUCH_OBJECT: u32 = 0x06020000;
 
 // A cell that nothing was loaded into.
 pub(crate) fn new() -> Cell {
@@ -72,18 +89,63 @@ fn number(b: &[u8]) -> u32 {
     low + 65536 * high
 }
 
+fn is_at(o: Object, index: u16, sub_index: u8) -> bool {
+    o.index == index && o.sub_index == sub_index
+}
+
 // The object with what a write brings, if the write is for it.
 fn written(o: Object, r: WriteByIndexRequest, payload: &[u8]) -> Object {
-    if o.index == r.index {
-        if o.sub_index == r.sub_index {
-            return Object {
-                bytes: r.len,
-                value: number(part(payload, r.start, r.len)),
-                ..o
-            };
-        }
+    if is_at(o, r.index, r.sub_index) {
+        return Object {
+            bytes: r.len,
+            value: number(part(payload, r.start, r.len)),
+            ..o
+        };
     }
     o
+}
+
+// What an object was given, its first four bytes at most.
+fn content(o: Object) -> Carried {
+    let given = o.bytes;
+    let bytes = if given < 4 { given as u16 } else { 4 };
+    Carried {
+        data: octets32(o.value),
+        bytes,
+        is_aborted: false,
+    }
+}
+
+fn read(c: Cell, r: ReadByIndexRequest) -> Carried {
+    let first = c.first;
+    let second = c.second;
+    if is_at(first, r.index, r.sub_index) {
+        return content(first);
+    }
+    if is_at(second, r.index, r.sub_index) {
+        return content(second);
+    }
+    Carried {
+        data: octets32(NO_SUCH_OBJECT),
+        bytes: 4,
+        is_aborted: true,
+    }
+}
+
+// What the reply to a command carries: only a ReadByIndex is answered with data.
+fn reply_data(c: Cell, id: CommandId, payload: &[u8]) -> Carried {
+    let nothing = Carried {
+        data: [0; 4],
+        bytes: 0,
+        is_aborted: false,
+    };
+    match id {
+        CommandId::ReadByIndex => match ReadByIndexRequest::from_payload(payload) {
+            ReadByIndexRead::Request(r) => read(c, r),
+            ReadByIndexRead::Refused(_) => nothing,
+        },
+        _ => nothing,
+    }
 }
 
 // The reply's numbers: the number received is the command's own, and the number sent follows the last that the client received. The
@@ -108,17 +170,17 @@ fn sequence(asked: SequenceLayerHeader) -> SequenceLayerHeader {
     }
 }
 
-fn response(asked: SdoCommand) -> SdoCommand {
+fn response(asked: SdoCommand, carried: Carried) -> SdoCommand {
     let header = asked.header;
     let command_id = header.command_id;
     SdoCommand {
         header: CommandLayerHeader {
             transaction_id: header.transaction_id,
             is_response: true,
-            is_aborted: false,
+            is_aborted: carried.is_aborted,
             segmentation: Segmentation::Expedited,
             command_id,
-            segment_size: 0,
+            segment_size: carried.bytes,
         },
         data_size: DataSize::Absent,
     }
@@ -148,9 +210,12 @@ pub(crate) fn answer(c: Cell, sent: SentTo, payload: &[u8]) -> Reply {
     let header = asked.header;
     let id = header.command_id;
     let numbers = sent.sequence;
+    let carried = reply_data(c, id, payload);
+    let data = carried.data;
     Reply {
         cell: stored(c, id, payload),
         sequence: sequence(numbers),
-        command: response(asked),
+        command: response(asked, carried),
+        data,
     }
 }

@@ -2,7 +2,7 @@
 // as the call left it and what the call told.
 ghost use mathlib.Core.Path.{_≡_};
 ghost use mathlib.Core.List.{[]};
-ghost use Rattle.manager.specs.Calls.{called, starts, turns, replies, loads, leastDeadline};
+ghost use Rattle.manager.specs.Calls.{called, starts, turns, replies, reads, loads, leastDeadline};
 ghost use Rattle.man_table.specs.Table.{live};
 ghost use Rattle.man_lent.specs.Lent.{keptOf};
 use codec::command::SdoCommand;
@@ -18,6 +18,21 @@ pub(crate) fn load(m: SdoClientManager, target: u8, dcf: &[u8], when: Now, store
 {
     let mut manager = m;
     let told = man_lent::start_configuration_download(&mut manager, target, dcf, when, store);
+    Kept { manager, told }
+}
+
+pub(crate) fn read(
+    m: SdoClientManager,
+    target: u8,
+    index: u16,
+    sub_index: u8,
+    when: Now,
+    store: &[u8],
+) -> Kept
+    ensures { λ r. ⌜ r ≡ keptOf (called m (now (store .entry)) [] (starts target (reads index «sub_index») «when») .done) ⌝ }
+{
+    let mut manager = m;
+    let told = man_lent::read_object_by_index(&mut manager, target, index, sub_index, when, store);
     Kept { manager, told }
 }
 

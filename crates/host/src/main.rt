@@ -21,10 +21,12 @@ mod cell;
 mod loan;
 mod print;
 
-// What is there between two turns, beside the store: the host's manager, and the cell at the other end of the wire.
+// What is there between two turns, beside the store: the host's manager, the cell at the other end of the wire, and the answer to the reply of the
+// last turn, Nothing where none came.
 struct Host {
     manager: SdoClientManager,
     cell: cell::Cell,
+    answer: Answer,
 }
 
 // The time, with timeout and retries absent: document 01 takes 15 seconds and 2 then.
@@ -46,6 +48,22 @@ fn start(
 ) -> SdoClientManager {
     let none = [0u8; 0];
     let kept = loan::load(m, node, dcf, at(time), store);
+    let told = kept.told;
+    print::told(told, &none);
+    kept.manager
+}
+
+// A read is started: the store is only looked at, and nothing goes out yet.
+fn start_read(
+    m: SdoClientManager,
+    node: u8,
+    index: u16,
+    sub_index: u8,
+    time: u64,
+    store: &[u8; STORE_SIZE],
+) -> SdoClientManager {
+    let none = [0u8; 0];
+    let kept = loan::read(m, node, index, sub_index, at(time), store);
     let told = kept.told;
     print::told(told, &none);
     kept.manager
@@ -79,14 +97,18 @@ fn answered(
     let seq = a.sequence;
     let cmd = a.command;
     let left = a.cell;
-    print::frame(b"from ", sent.node, seq, cmd, &none);
-    let kept = loan::reply(manager, sent.node, seq, cmd, &none, store);
+    let data = a.data;
+    let payload = print::payload_of(cmd, &data);
+    print::frame(b"from ", sent.node, seq, cmd, payload);
+    let kept = loan::reply(manager, sent.node, seq, cmd, payload, store);
     let told = kept.told;
     let after = kept.manager;
+    let answer = told.answer;
     print::told(told, &none);
     Host {
         manager: after,
         cell: left,
+        answer,
     }
 }
 
@@ -101,6 +123,7 @@ fn turn(h: Host, time: u64, store: &mut [u8; STORE_SIZE], output: &mut [u8; OUTP
     let on = Host {
         manager: after,
         cell,
+        answer: Answer::Nothing,
     };
     let Answer::Sent(sent) = answer else {
         return on;
@@ -138,10 +161,42 @@ fn load(
     let started = Host {
         manager: start(manager, 5, dcf, time, store),
         cell,
+        answer: Answer::Nothing,
     };
     let opened = turn(started, time, store, output);
     let first = turn(opened, time, store, output);
     turn(first, time, store, output)
+}
+
+// What a read brought is in the store: it is handed out before the next call, which may use its bytes again. A read that failed brought none.
+fn take_value(index: u16, sub_index: u8, answer: Answer, store: &[u8; STORE_SIZE]) {
+    let Answer::Value(place) = answer else {
+        return;
+    };
+    print::value(index, sub_index, man_lent::value_in(store, place));
+}
+
+// A read: a job is started, and then there are as many turns as an opening and a value of one frame take.
+fn read(
+    h: Host,
+    index: u16,
+    sub_index: u8,
+    time: u64,
+    store: &mut [u8; STORE_SIZE],
+    output: &mut [u8; OUTPUT_SIZE],
+) -> Host {
+    let manager = h.manager;
+    let cell = h.cell;
+    let started = Host {
+        manager: start_read(manager, 5, index, sub_index, time, store),
+        cell,
+        answer: Answer::Nothing,
+    };
+    let opened = turn(started, time, store, output);
+    let done = turn(opened, time, store, output);
+    let answer = done.answer;
+    take_value(index, sub_index, answer, store);
+    done
 }
 
 // Nobody answers: two repeats, the abort command, and then there is nothing to wait for.
@@ -161,8 +216,8 @@ fn silent(
     later(aborted, store, output);
 }
 
-// Document 01's P7, two entries; and P8, its last byte dropped: the second entry is not readable, and the job ends Cut with the one that
-// was delivered.
+// Document 01's P7, two entries, and the first read back; and P8, its last byte dropped: the second entry is not readable, and the job ends Cut
+// with the one that was delivered.
 fn main() {
     let mut store = [0u8; STORE_SIZE];
     let mut output = [0u8; OUTPUT_SIZE];
@@ -170,13 +225,22 @@ fn main() {
     let new = Host {
         manager: SdoClientManager::new(),
         cell: cell::new(),
+        answer: Answer::Nothing,
     };
     console::text(b"node 5, a DCF of two entries\n");
     let whole = load(new, dcf, 0, &mut store, &mut output);
     let loaded = whole.cell;
     print::objects(loaded);
+    console::text(b"node 5, a read of 2100:01\n");
+    let read_back = read(whole, 0x2100, 1, 500000, &mut store, &mut output);
     console::text(b"node 5, the same DCF without its last byte\n");
-    let cut = load(whole, part(dcf, 0, 19), 1000000, &mut store, &mut output);
+    let cut = load(
+        read_back,
+        part(dcf, 0, 19),
+        1000000,
+        &mut store,
+        &mut output,
+    );
     let manager = cut.manager;
     console::text(b"node 7, which does not answer\n");
     silent(manager, dcf, 2000000, &mut store, &mut output);

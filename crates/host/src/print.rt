@@ -10,6 +10,7 @@ use con_rec::End;
 use con_rec::Reason;
 use console::hex;
 use console::number;
+use console::octets;
 use console::small;
 use console::text;
 use man_lent::types::Told;
@@ -72,7 +73,8 @@ fn ends(e: Ends) {
     }
 }
 
-// What a call told: a refusal's number, a command that goes out, or nothing; and the ends.
+// What a call told: a refusal's number, a command that goes out, or nothing; and the ends. A part of the store is no value yet: its
+// bytes are printed by `value`, once they are handed out.
 pub(crate) fn told(t: Told, output: &[u8]) {
     let answer = t.answer;
     let list = t.ends;
@@ -89,6 +91,7 @@ pub(crate) fn told(t: Told, output: &[u8]) {
                 payload_of(command, output),
             );
         }
+        Answer::Value(_) => {}
         Answer::Refused(r) => {
             text(b"refused ");
             small(refusal_number(r));
@@ -107,12 +110,28 @@ pub(crate) fn next(d: Deadline) {
     text(b"\n");
 }
 
+// An object's index and sub-index, and a space.
+fn name(index: u16, sub_index: u8) {
+    hex(index as u64, 4);
+    text(b":");
+    hex(sub_index as u64, 2);
+    text(b" ");
+}
+
+// What a read of an object brought.
+pub(crate) fn value(index: u16, sub_index: u8, bytes: &[u8]) {
+    text(b"value ");
+    name(index, sub_index);
+    if bytes.len() == 0 {
+        text(b"-");
+    }
+    octets(bytes);
+    text(b"\n");
+}
+
 fn object(o: Object) {
     text(b"object ");
-    hex(o.index as u64, 4);
-    text(b":");
-    hex(o.sub_index as u64, 2);
-    text(b" ");
+    name(o.index, o.sub_index);
     number(o.bytes as u64);
     text(b" bytes, ");
     number(o.value as u64);

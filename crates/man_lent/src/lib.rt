@@ -1,10 +1,11 @@
 // The manager lent for change (document 01, "Which shape goes where"): the manager's calls for a host that keeps a manager in a place of
 // its own. Each copies what stands behind the reference, calls the manager's function by value, stores the manager that comes back, and
-// tells the host the rest. Every function is total on any manager and any slices. Refusals are those of the manager's own
-// calls, where they are told.
+// tells the host the rest; `next_action_time` only looks at the manager, and `value_in` needs none. Every function is total on any manager and any
+// slices. Refusals are those of the manager's own calls, where they are told.
 ghost use mathlib.Core.Path.{_≡_};
 ghost use mathlib.Core.List.{[]};
 ghost use Rattle.manager.specs.Calls.{called, starts, turns, replies, writes, reads, loads, leastDeadline};
+ghost use Rattle.manager.specs.Value.{valueIn};
 ghost use Rattle.man_table.specs.Table.{live};
 ghost use Rattle.man_lent.specs.Lent.{toldOf};
 use crate::types::Told;
@@ -14,6 +15,7 @@ use con_rec::Deadline;
 use con_rec::Now;
 use man_table::types::SdoClientManager;
 use man_table::types::Turn;
+use manager::types::StorePart;
 
 pub mod types;
 pub(crate) mod value;
@@ -66,7 +68,8 @@ pub fn read_object_by_index(
     a.told
 }
 
-// Takes a command from a node: its sequence header, the command and its payload.
+// Takes a command from a node: its sequence header, the command and its payload. Where it ends a read Complete the answer is the part of the store that
+// holds the data.
 pub fn handle_response(
     m: &mut SdoClientManager,
     source: u8,
@@ -80,6 +83,14 @@ pub fn handle_response(
     let a = crate::value::replying(*m, source, seq, cmd, payload, store);
     *m = a.manager;
     a.told
+}
+
+// Hands out the part of the store that a reply answered. Call it before the next start, reply, tick or ask: they may use its bytes again. It needs no
+// manager and refuses nothing; a part that does not lie within the store comes back empty.
+pub fn value_in(store: &[u8], at: StorePart) -> &[u8]
+    ensures { λ r. ⌜ now r ≡ valueIn (now (store .entry)) at ⌝ }
+{
+    manager::value::value_in(store, at)
 }
 
 // What is to be sent next, to whom, its payload at the start of the output; and the jobs that are done. Call it when a frame can go

@@ -4,4 +4,5 @@ pub mod LentRoom
 pub mod Parts
 pub mod PlanCalls
 pub mod StartCalls
+pub mod ValueCases
 pub mod WalkCalls

@@ -35,6 +35,7 @@ use Rattle.manager.specs.Types.{
   SequenceLayerHeader,
   Turn,
 }
+use Rattle.manager.specs.Value.{valueOf}
 use Rattle.man_table.specs.Walk.{Walking, refused, through, stopped, walkList}
 
 -- the job that a start is for
@@ -143,9 +144,9 @@ unfoldable pub startOf : SdoClientManager → ℕ → Job → Now → Bytes → 
 startOf m node job n store =
     startAt (seatIn (targetOf m node) (length store)) (targetOf m node) m job n store
 
--- a reply, by what the node's connection makes of it: a node that is not held is ignored
+-- a reply, by what the node's connection makes of it: one that ends a read Complete answers its value; a node that is not held is ignored
 abbrev pub repliedAs : Taken → ℕ → Change
-repliedAs (Taken.Connection d) k = putting (Entry.At k d) Answer.Nothing
+repliedAs (Taken.Connection d) k = putting (Entry.At k d) (valueOf d)
 repliedAs (Taken.Refused r) k = same (Answer.Refused r)
 
 abbrev pub repliedStore : Taken → Bytes → Bytes → Bytes

@@ -7,6 +7,7 @@ use crate::change::same;
 use crate::room::reply_in;
 use crate::types::Answer;
 use crate::types::Change;
+use crate::value::value_of;
 use codec::command::SdoCommand;
 use codec::refusal::Refusal;
 use codec::sequence::SequenceLayerHeader;
@@ -22,7 +23,7 @@ fn replied_as(a: Taken, place: usize) -> Change
     ensures { λ r. ⌜ r ≡ repliedAs a place ⌝ }
 {
     match a {
-        Taken::Connection(c) => putting(Entry::At(place, c), Answer::Nothing),
+        Taken::Connection(c) => putting(Entry::At(place, c), value_of(c)),
         Taken::Refused(r) => same(Answer::Refused(r)),
     }
 }

@@ -9,8 +9,9 @@ use codec::command::SdoCommand;
 use codec::sequence::SequenceLayerHeader;
 use man_table::types::SdoClientManager;
 
-// Takes a command from a node: its sequence header, the command and its payload. A node that is not held is ignored. 9 for a store that
-// isn't 32,768 bytes, 7 where an upload goes past its room; then nothing has happened.
+// Takes a command from a node: its sequence header, the command and its payload. A node that is not held is ignored. Where it ends a read Complete the
+// answer is the part of the store that holds the data; value_in hands it out, and it is that part until the next start, reply, tick or ask. 9 for a
+// store that isn't 32,768 bytes, 7 where an upload goes past its room; then nothing has happened.
 pub fn handle_response(
     m: SdoClientManager,
     source: u8,

@@ -18,7 +18,7 @@ use man_table::types::LAST_ROOM;
 use man_table::types::ROOM_SIZE;
 
 // Where a connection's room starts, within the store whatever the record says.
-fn room_start(c: SdoClientConnection) -> usize
+pub(crate) fn room_start(c: SdoClientConnection) -> usize
     ensures { λ r. ⌜ (r ≡ roomStart c) × (r ≤ 28672) ⌝ }
 {
     if c.room < LAST_ROOM {

@@ -18,9 +18,17 @@ pub struct SentTo {
     pub command: SdoCommand,
 }
 
+// A part of the store: where it starts and how many bytes it has.
+pub struct StorePart {
+    pub start: usize,
+    pub length: usize,
+}
+
+// What a call answers: nothing; a command that goes out; the part of the store with what a read brought, where a reply ended it Complete; or a refusal.
 pub enum Answer {
     Nothing,
     Sent(SentTo),
+    Value(StorePart),
     Refused(Refusal),
 }
 

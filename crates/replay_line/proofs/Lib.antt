@@ -3,3 +3,4 @@ pub mod LineBuffer
 pub mod Lines
 pub mod PutText
 pub mod SpelledDigits
+pub mod ValueLines

@@ -49,21 +49,26 @@ module _ (s : SentTo) (output : Bytes) {n : ℕ} (e : n ≡ min (s .command .hea
       let l = ap length (f ∙ g) ∙ length-take n output in
       (rw (← e) (f ∙ g), omega arith)
 
--- a line refused, and written by its four texts, one behind the other
+-- a text refused, and written; a line by its four texts, one behind the other
 module _ (out : Bytes) (at : ℕ) where
   pub line-refused : (line : Bytes) → length out < at + mostLine
       → (Written.Refused Refusal.BufferTooShort ≡ lineAnswer out at line) × ((out ≡ lineBuffer out at line) × Short (Written.Refused Refusal.BufferTooShort))
   unfolding lineAnswer lineBuffer
   line-refused line h = (beyond _ _ _ _ h refl, (beyond _ _ _ _ h refl, tt))
 
+  pub text-written : (text : Bytes) {after : Bytes} {end : ℕ} → at + mostLine ≤ length out → Put out at text after end → end ≤ at + mostLine
+      → (Written.Bytes (end - at) ≡ lineAnswer out at text) × ((after ≡ lineBuffer out at text) × Short (Written.Bytes (end - at)))
+  unfolding lineAnswer lineBuffer
+  text-written text {end = end} h w short =
+      let f = w .ends in
+      let e : end - at ≡ length text = omega arith in
+      (within _ _ _ _ h (ap Written.Bytes e), (within _ _ _ _ h (w .bytes), omega arith))
+
   pub line-written : {first second third after : Bytes} {i j k end : ℕ} (number : ℕ) (b : Bytes) (answer : Answer) (ends : Ends) (output : Bytes)
       → at + mostLine ≤ length out → Put out at (recordText number b) first i → Put first i (answerText answer output) second j
       → Put second j (endsText (take (ends .count) (ends .list))) third k → Put third k (newline ∷ []) after end → end ≤ at + mostLine
       → (Written.Bytes (end - at) ≡ lineAnswer out at (lineOf number b answer ends output))
       × ((after ≡ lineBuffer out at (lineOf number b answer ends output)) × Short (Written.Bytes (end - at)))
-  unfolding lineAnswer lineBuffer lineOf
-  line-written {end = end} number b answer ends output h p q r s short =
-      let w = puts (puts (puts p q) r) s in
-      let f = w .ends in
-      let e : end - at ≡ length (lineOf number b answer ends output) = omega arith in
-      (within _ _ _ _ h (ap Written.Bytes e), (within _ _ _ _ h (w .bytes), omega arith))
+  unfolding lineOf
+  line-written number b answer ends output h p q r s short =
+      text-written (lineOf number b answer ends output) h (puts (puts (puts p q) r) s) short

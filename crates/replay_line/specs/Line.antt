@@ -55,11 +55,13 @@ operationText b = pick (ltb (length b) 32) nothing (byteText (getD b 0 0))
 abbrev pub refusalText : Answer → Bytes
 refusalText Answer.Nothing = byteText 0
 refusalText (Answer.Sent s) = byteText 0
+refusalText (Answer.Value part) = byteText 0
 refusalText (Answer.Refused r) = byteText (refusalNumber r)
 
 abbrev pub nodeText : Answer → Bytes
 nodeText Answer.Nothing = nothing
 nodeText (Answer.Sent s) = byteText (s .node)
+nodeText (Answer.Value part) = nothing
 nodeText (Answer.Refused r) = nothing
 
 -- the payload is at the start of the output, as long as the segment size says, at most 1,452 bytes
@@ -70,6 +72,7 @@ abbrev pub sentText : Answer → Bytes → Bytes
 sentText Answer.Nothing output = nothing
 sentText (Answer.Sent s) output =
     hex (sequenceBytes (s .sequence)) ++ hex (commandBytes (s .command) (sentPayload s output))
+sentText (Answer.Value part) output = nothing
 sentText (Answer.Refused r) output = nothing
 
 unfoldable pub endText : End → Bytes
@@ -98,9 +101,9 @@ unfoldable pub lineOf : ℕ → Bytes → Answer → Ends → Bytes → Bytes
 lineOf number b answer ends output =
     recordText number b ++ answerText answer output ++ endsText (take (ends .count) (ends .list)) ++ (newline ∷ [])
 
--- A line has at most 4,096 bytes; where fewer are free from its place on it is refused, and nothing is written.
+-- A line has at most 8,211 bytes, that of a value of 4,096 bytes; where fewer are free from its place on it is refused, and nothing is written.
 abbrev pub mostLine : ℕ
-mostLine = 4096
+mostLine = 8211
 
 abbrev pub Short : Written → Type 0
 Short (Written.Bytes n) = n ≤ mostLine

@@ -39,8 +39,8 @@ use manager::types::Answer;
 use manager::types::OUTPUT_SIZE;
 use manager::types::SentTo;
 
-// The room that a line is sure to fit in.
-pub const MOST_LINE: usize = 4096;
+// The room that a line is sure to fit in: the longest is that of a value of 4,096 bytes.
+pub const MOST_LINE: usize = 8211;
 
 fn letter(r: Reason) -> u8
     ensures { λ b. ⌜ b ≡ letterOf r ⌝ }
@@ -75,6 +75,7 @@ fn put_refusal(out: &mut [u8], at: usize, answer: Answer) -> usize
     match answer {
         Answer::Nothing => return put_decimal(out, at, 0, 2, 100),
         Answer::Sent(_) => return put_decimal(out, at, 0, 2, 100),
+        Answer::Value(_) => return put_decimal(out, at, 0, 2, 100),
         Answer::Refused(r) => return put_decimal(out, at, refusal_number(r) as u32, 2, 100),
     }
 }
@@ -87,6 +88,7 @@ fn put_node(out: &mut [u8], at: usize, answer: Answer) -> usize
     match answer {
         Answer::Nothing => return put_byte(out, at, b'-'),
         Answer::Sent(s) => return put_decimal(out, at, s.node as u32, 2, 100),
+        Answer::Value(_) => return put_byte(out, at, b'-'),
         Answer::Refused(_) => return put_byte(out, at, b'-'),
     }
 }
@@ -144,6 +146,7 @@ fn put_sent(out: &mut [u8], at: usize, answer: Answer, output: &[u8]) -> usize
             let end = put_sequence(out, at, sequence);
             return put_command(out, end, command, payload_of(s, output));
         }
+        Answer::Value(_) => return put_byte(out, at, b'-'),
         Answer::Refused(_) => return put_byte(out, at, b'-'),
     }
 }
@@ -207,7 +210,7 @@ fn put_answer(out: &mut [u8], at: usize, answer: Answer, output: &[u8]) -> usize
     put_byte(out, sent, b' ')
 }
 
-// Writes a record's line at a place of the text, and leaves the rest as it was; 1, and nothing is written, where fewer than 4,096 bytes
+// Writes a record's line at a place of the text, and leaves the rest as it was; 1, and nothing is written, where fewer than 8,211 bytes
 // are free there. A line never has more.
 pub fn write_line(
     out: &mut [u8],

@@ -1,4 +1,4 @@
--- A line has room where 4,096 bytes of the text are free.
+-- A line has room where 8,211 bytes of the text are free.
 use Prim.Native.Nat.{ℕ, _+_, _≤_}
 use native.Mathlib.Omega.{arith}
 use mathlib.Core.Path.{_≡_, refl, sym, ap, subst, _∙_}

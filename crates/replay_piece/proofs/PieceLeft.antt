@@ -15,7 +15,7 @@ use Rattle.codec.proofs.ReadCases.{part-inside}
 use Rattle.codec.specs.Bytes.{Bytes, partAt}
 use Rattle.theorems.specs.InPlace.{Neat}
 use Rattle.replay_piece.specs.Piece.{Stand, afterRecord, replayed, stops}
-use Rattle.replay_piece.specs.Types.{Parameter}
+use Rattle.replay_piece.specs.Types.{Settings}
 
 -- the slices are as long as they were at first
 pub record Sized (first s : Stand) : Type 0 where
@@ -25,22 +25,22 @@ pub record Sized (first s : Stand) : Type 0 where
   pub text : length (s .text) ≡ length (first .text)
 
 -- enough records are left for the bytes that are left
-pub record Going (timeout retries : Parameter) (first total : Stand) (input : Bytes) (s : Stand) (at : ℕ) : Type 0 where
+pub record Going (settings : Settings) (first total : Stand) (input : Bytes) (s : Stand) (at : ℕ) : Type 0 where
   pub records : ℕ
   pub enough : length input ≤ at + records
-  pub same : replayed timeout retries records s (drop at input) ≡ total
+  pub same : replayed settings records s (drop at input) ≡ total
   pub inside : at ≤ length input
   pub neat : Neat (s .run .manager)
   pub sized : Sized first s
 
-module _ (timeout retries : Parameter) where
+module _ (settings : Settings) where
   -- nothing is left, or the run stops
-  none-left : (k : ℕ) (s : Stand) → replayed timeout retries k s [] ≡ s
+  none-left : (k : ℕ) (s : Stand) → replayed settings k s [] ≡ s
   unfolding replayed
   none-left zero s = refl
   none-left (suc k) s = refl
 
-  stop-here : (k : ℕ) (s : Stand) (l : Bytes) → stops s ≡ true → replayed timeout retries k s l ≡ s
+  stop-here : (k : ℕ) (s : Stand) (l : Bytes) → stops s ≡ true → replayed settings k s l ≡ s
   unfolding replayed pick
   stop-here zero s l e = refl
   stop-here (suc k) s [] e = refl
@@ -48,16 +48,16 @@ module _ (timeout retries : Parameter) where
 
   -- one record of those that are left
   one-more : (k : ℕ) (s : Stand) (l : Bytes) → 0 < length l → length l ≤ k → stops s ≡ false
-      → (j : ℕ) × (suc j ≡ k) × (replayed timeout retries k s l ≡ replayed timeout retries j (afterRecord timeout retries s (take 32 l)) (drop 32 l))
+      → (j : ℕ) × (suc j ≡ k) × (replayed settings k s l ≡ replayed settings j (afterRecord settings s (take 32 l)) (drop 32 l))
   unfolding replayed pick
   one-more zero s l h f e = absurd (omega arith)
   one-more (suc k) s [] h f e = absurd (omega arith)
   one-more (suc k) s (x ∷ l) h f e = (k, refl, rw e)
 
-  module _ {first total : Stand} {input : Bytes} {s : Stand} {at : ℕ} (g : Going timeout retries first total input s at) where
+  module _ {first total : Stand} {input : Bytes} {s : Stand} {at : ℕ} (g : Going settings first total input s at) where
     pub going-ends : length input ≤ at → s ≡ total
     going-ends h =
-        sym (none-left (g .records) s) ∙ ap (replayed timeout retries (g .records) s) (sym (drop-of-length-le input h)) ∙ g .same
+        sym (none-left (g .records) s) ∙ ap (replayed settings (g .records) s) (sym (drop-of-length-le input h)) ∙ g .same
 
     pub going-stops : stops s ≡ true → s ≡ total
     going-stops e = sym (stop-here (g .records) s (drop at input) e) ∙ g .same
@@ -91,26 +91,26 @@ module _ (timeout retries : Parameter) where
           let k = ap length (parts .0) ∙ length-take 32 (drop at input) in
           omega (arith, size)
 
-      pub going-on : {t : Stand} → stops s ≡ false → Neat (afterRecord timeout retries s b .run .manager) → Sized first t → t ≡ afterRecord timeout retries s b
-          → Going timeout retries first total input t (at + n)
+      pub going-on : {t : Stand} → stops s ≡ false → Neat (afterRecord settings s b .run .manager) → Sized first t → t ≡ afterRecord settings s b
+          → Going settings first total input t (at + n)
       going-on {t} e neat z f =
           let l : length (drop at input) ≡ length input - at = length-drop at input in
           let k = g .enough in
           let x = one-more (g .records) s (drop at input) (omega arith) (omega arith) e in
-          let here : t ≡ afterRecord timeout retries s (take 32 (drop at input)) = f ∙ ap (afterRecord timeout retries s) (parts .0) in
+          let here : t ≡ afterRecord settings s (take 32 (drop at input)) = f ∙ ap (afterRecord settings s) (parts .0) in
           let fuel = x .1 in
           record {
             records = x .0;
             enough = omega (arith, size);
-            same = (λ i. replayed timeout retries (x .0) (here i) (sym (parts .1) i)) ∙ sym (x .2) ∙ g .same;
+            same = (λ i. replayed settings (x .0) (here i) (sym (parts .1) i)) ∙ sym (x .2) ∙ g .same;
             inside = omega (arith, size);
             neat = subst (λ (x : Stand). Neat (x .run .manager)) (sym f) neat;
             sized = z;
           }
 
-pub going-begins : (timeout retries : Parameter) (s : Stand) (input : Bytes) → Neat (s .run .manager)
-    → Going timeout retries s (replayed timeout retries (length input) s input) input s 0
-going-begins timeout retries s input neat =
+pub going-begins : (settings : Settings) (s : Stand) (input : Bytes) → Neat (s .run .manager)
+    → Going settings s (replayed settings (length input) s input) input s 0
+going-begins settings s input neat =
     record {
       records = length input;
       enough = omega arith;

@@ -20,7 +20,7 @@ use Rattle.theorems.proofs.InPlace.{in-place}
 use Rattle.theorems.proofs.Neat.{swept-neat}
 use Rattle.replay_piece.specs.Piece.{Stand, afterRecord, begun, replayed, stateOf, stops}
 use Rattle.replay_piece.specs.Pieces.{AllRead, HostStand, NoneRead, PiecesJoin, Room, Step, afterStep, afterSteps, begins, passed, passes, prints, textOf}
-use Rattle.replay_piece.specs.Types.{Parameter, SdoClientManager}
+use Rattle.replay_piece.specs.Types.{SdoClientManager, Settings}
 use Rattle.replay_piece.specs.Whole.{State, asked, first, line, linesFrom, linesWith, next}
 use Rattle.replay_piece.proofs.OneRecord.{granted-neat}
 
@@ -52,56 +52,56 @@ unfolding pick
 goes true b e = let z : _≡_ {A = ℕ} 0 1 = cc e in absurd (omega arith)
 goes false b e = (refl, e)
 
-module _ (timeout retries : Parameter) (lines : Bytes) where
+module _ (settings : Settings) (lines : Bytes) where
   record Ahead (printed : Bytes) (s : Stand) (left : Bytes) : Type 0 where
     most : ℕ
     few : s .run .progress .number + most ≡ 65535
-    same : printed ++ textOf s ++ linesFrom timeout retries most (stateOf s) left ≡ lines
+    same : printed ++ textOf s ++ linesFrom settings most (stateOf s) left ≡ lines
     neat : Neat (s .run .manager)
 
   told : (s : Stand) (b : Bytes) → s .run .progress .text ≤ length (s .text)
-      → textOf (afterRecord timeout retries s b) ≡ textOf s ++ line timeout retries (stateOf s) b
+      → textOf (afterRecord settings s b) ≡ textOf s ++ line settings (stateOf s) b
   unfolding afterRecord
-  told s b h = text-placed (s .text) (line timeout retries (stateOf s) b) (s .run .progress .text) h
+  told s b h = text-placed (s .text) (line settings (stateOf s) b) (s .run .progress .text) h
 
-  stands : (s : Stand) (b : Bytes) → stateOf (afterRecord timeout retries s b) ≡ next timeout retries (stateOf s) b
+  stands : (s : Stand) (b : Bytes) → stateOf (afterRecord settings s b) ≡ next settings (stateOf s) b
   unfolding afterRecord next
   stands s b = refl
 
-  after-neat : (s : Stand) (b : Bytes) → Neat (s .run .manager) → Neat (afterRecord timeout retries s b .run .manager)
+  after-neat : (s : Stand) (b : Bytes) → Neat (s .run .manager) → Neat (afterRecord settings s b .run .manager)
   unfolding afterRecord
-  after-neat s b h = granted-neat (s .run .manager) h (s .store) (s .output) (asked timeout retries (stateOf s) b .request)
+  after-neat s b h = granted-neat (s .run .manager) h (s .store) (s .output) (asked settings (stateOf s) b .request)
 
   module _ (printed : Bytes) where
     -- one record of those that are left
     line-ahead : (most : ℕ) (s : Stand) (left : Bytes) → 0 < length left → s .run .progress .text ≤ length (s .text)
-        → printed ++ textOf s ++ linesFrom timeout retries (suc most) (stateOf s) left ≡ lines
-        → printed ++ textOf (afterRecord timeout retries s (take 32 left))
-        ++ linesFrom timeout retries most (stateOf (afterRecord timeout retries s (take 32 left))) (drop 32 left)
+        → printed ++ textOf s ++ linesFrom settings (suc most) (stateOf s) left ≡ lines
+        → printed ++ textOf (afterRecord settings s (take 32 left))
+        ++ linesFrom settings most (stateOf (afterRecord settings s (take 32 left))) (drop 32 left)
         ≡ lines
     unfolding linesFrom
     line-ahead most s [] h room e = absurd (omega arith)
     line-ahead most s (x ∷ l) h room e =
         let b : Bytes = take 32 (x ∷ l) in
-        let rest : Bytes = linesFrom timeout retries most (next timeout retries (stateOf s) b) (drop 32 (x ∷ l)) in
-        let shift : printed ++ (textOf s ++ line timeout retries (stateOf s) b) ++ rest ≡ printed ++ textOf s ++ (line timeout retries (stateOf s) b ++ rest) =
+        let rest : Bytes = linesFrom settings most (next settings (stateOf s) b) (drop 32 (x ∷ l)) in
+        let shift : printed ++ (textOf s ++ line settings (stateOf s) b) ++ rest ≡ printed ++ textOf s ++ (line settings (stateOf s) b ++ rest) =
         simp append-assoc in
-        ap (λ (t : State). printed ++ textOf (afterRecord timeout retries s b) ++ linesFrom timeout retries most t (drop 32 (x ∷ l))) (stands s b)
+        ap (λ (t : State). printed ++ textOf (afterRecord settings s b) ++ linesFrom settings most t (drop 32 (x ∷ l))) (stands s b)
         ∙ ap (λ (t : Bytes). printed ++ t ++ rest) (told s b room) ∙ shift ∙ e
 
     record-ahead : (s : Stand) (left : Bytes) → 0 < length left → stops s ≡ false → Ahead printed s left
-        → Ahead printed (afterRecord timeout retries s (take 32 left)) (drop 32 left)
+        → Ahead printed (afterRecord settings s (take 32 left)) (drop 32 left)
     unfolding afterRecord
     record-ahead s left h e a =
-        let t = goes (eqb (s .run .progress .number) 65535) (ltb (length (s .text)) (s .run .progress .text + 4096)) e in
+        let t = goes (eqb (s .run .progress .number) 65535) (ltb (length (s .text)) (s .run .progress .text + 8211)) e in
         let n = eqb-false (s .run .progress .number) 65535 (t .0) in
-        let room = ltb-false (length (s .text)) (s .run .progress .text + 4096) (t .1) in
+        let room = ltb-false (length (s .text)) (s .run .progress .text + 8211) (t .1) in
         go (a .most) (a .few) (a .same) n room
       where
         go : (most : ℕ) → s .run .progress .number + most ≡ 65535
-            → printed ++ textOf s ++ linesFrom timeout retries most (stateOf s) left ≡ lines
-            → (s .run .progress .number ≡ 65535 → ⊥) → s .run .progress .text + 4096 ≤ length (s .text)
-            → Ahead printed (afterRecord timeout retries s (take 32 left)) (drop 32 left)
+            → printed ++ textOf s ++ linesFrom settings most (stateOf s) left ≡ lines
+            → (s .run .progress .number ≡ 65535 → ⊥) → s .run .progress .text + 8211 ≤ length (s .text)
+            → Ahead printed (afterRecord settings s (take 32 left)) (drop 32 left)
         go zero f g n room = absurd (n (omega arith))
         go (suc m) f g n room =
             record {
@@ -119,7 +119,7 @@ module _ (timeout retries : Parameter) (lines : Bytes) where
       some : stops s ≡ false → 0 < length piece → length piece ≤ k → 0 < bytes
 
     record-on : (s : Stand) (left : Bytes) {piece rest : Bytes} {k j : ℕ} {t : Stand} → 0 < length left
-        → Through (afterRecord timeout retries s (take 32 left)) rest (drop 32 left) j t → Through s piece left k t
+        → Through (afterRecord settings s (take 32 left)) rest (drop 32 left) j t → Through s piece left k t
     unfolding afterRecord
     record-on s left {t = t} h x =
         let r : t .run .progress .read ≡ s .run .progress .read + length (take 32 left) + x .bytes = x .read in
@@ -132,7 +132,7 @@ module _ (timeout retries : Parameter) (lines : Bytes) where
         }
 
     replay-on : (k records : ℕ) (s : Stand) (left piece : Bytes) → piece ≡ take (records * 32) left → Ahead printed s left
-        → Through s piece left k (replayed timeout retries k s piece)
+        → Through s piece left k (replayed settings k s piece)
     unfolding replayed
     replay-on zero records s left piece e a =
         record { bytes = 0; read = omega arith; ahead = a; some = λ f g h. absurd (omega arith) }
@@ -149,9 +149,9 @@ module _ (timeout retries : Parameter) (lines : Bytes) where
         decided (Through s (x ∷ piece) left (suc k)) (stops s) s _
         (λ f. record { bytes = 0; read = omega arith; ahead = a; some = λ g p q. let z : _≡_ {A = ℕ} 0 1 = cc in absurd (omega arith) })
         (λ f.
-        subst (λ (b : Bytes). Through s (x ∷ piece) left (suc k) (replayed timeout retries k (afterRecord timeout retries s b) (drop 32 (x ∷ piece)))) (sym head)
+        subst (λ (b : Bytes). Through s (x ∷ piece) left (suc k) (replayed settings k (afterRecord settings s b) (drop 32 (x ∷ piece)))) (sym head)
         (record-on s left (omega arith)
-        (replay-on k records (afterRecord timeout retries s (take 32 left)) (drop 32 left) (drop 32 (x ∷ piece)) rest
+        (replay-on k records (afterRecord settings s (take 32 left)) (drop 32 left) (drop 32 (x ∷ piece)) rest
         (record-ahead s left (omega arith) f a))))
 
   -- a call of `replay_piece`: the sweep at its beginning changes nothing
@@ -174,7 +174,7 @@ module _ (timeout retries : Parameter) (lines : Bytes) where
             subst
             (λ (k : SdoClientManager).
             h .printed ++ textOf s
-            ++ linesFrom timeout retries (a .most)
+            ++ linesFrom settings (a .most)
             (record {
               manager = k;
               store = s .store;
@@ -191,27 +191,27 @@ module _ (timeout retries : Parameter) (lines : Bytes) where
 
   call-on : (h : HostStand) (records : ℕ) → Held h
       → let piece : Bytes = take (records * 32) (h .left) in
-      Through (h .printed) (swept h) piece (h .left) (length piece) (passed timeout retries h records)
+      Through (h .printed) (swept h) piece (h .left) (length piece) (passed settings h records)
   unfolding passed
   call-on h records a =
       let piece : Bytes = take (records * 32) (h .left) in
       replay-on (h .printed) (length piece) records (swept h) (h .left) piece refl (swept-ahead h a)
 
-  step-held : (h : HostStand) (x : Step) → Held h → Held (afterStep timeout retries h x)
+  step-held : (h : HostStand) (x : Step) → Held h → Held (afterStep settings h x)
   step-held h (passes records) a =
       let t = call-on h records a in
-      let n : t .bytes ≡ passed timeout retries h records .run .progress .read = omega (arith, t .read) in
-      subst (λ (k : ℕ). Ahead (h .printed) (passed timeout retries h records) (drop k (h .left))) n (t .ahead)
+      let n : t .bytes ≡ passed settings h records .run .progress .read = omega (arith, t .read) in
+      subst (λ (k : ℕ). Ahead (h .printed) (passed settings h records) (drop k (h .left))) n (t .ahead)
   step-held h prints a =
       record { most = a .most; few = a .few; same = rw append-nil (a .same); neat = a .neat }
 
-  steps-held : (steps : List Step) (h : HostStand) → Held h → Held (afterSteps timeout retries h steps)
+  steps-held : (steps : List Step) (h : HostStand) → Held h → Held (afterSteps settings h steps)
   unfolding afterSteps
   steps-held [] h a = a
-  steps-held (x ∷ steps) h a = steps-held steps (afterStep timeout retries h x) (step-held h x a)
+  steps-held (x ∷ steps) h a = steps-held steps (afterStep settings h x) (step-held h x a)
 
   -- nothing is left, or no record more is read
-  no-lines : (most : ℕ) (s : State) (left : Bytes) → (left ≡ []) ⊎ (most ≡ 0) → linesFrom timeout retries most s left ≡ []
+  no-lines : (most : ℕ) (s : State) (left : Bytes) → (left ≡ []) ⊎ (most ≡ 0) → linesFrom settings most s left ≡ []
   unfolding linesFrom
   no-lines zero s left e = refl
   no-lines (suc most) s [] e = refl
@@ -220,7 +220,7 @@ module _ (timeout retries : Parameter) (lines : Bytes) where
 
   all-read : (h : HostStand) → Held h → AllRead h → h .printed ++ textOf (h .stand) ≡ lines
   all-read h a r =
-      let none : linesFrom timeout retries (a .most) (stateOf (h .stand)) (h .left) ≡ [] =
+      let none : linesFrom settings (a .most) (stateOf (h .stand)) (h .left) ≡ [] =
       no-lines (a .most) (stateOf (h .stand)) (h .left) (⊎-elim inl (λ e. inr (omega (arith, a .few))) r) in
       sym (append-nil (h .printed ++ textOf (h .stand)))
       ∙ ap (λ (l : Bytes). h .printed ++ textOf (h .stand) ++ l) (sym none) ∙ a .same
@@ -228,10 +228,10 @@ module _ (timeout retries : Parameter) (lines : Bytes) where
   -- a call that has room for a line and reads nothing
   stops-not : (h : HostStand) → eqb (h .stand .run .progress .number) 65535 ≡ false → Room h → stops (swept h) ≡ false
   unfolding pick
-  stops-not h f room = rw (f, le-ltb (length (h .stand .text)) (h .stand .run .progress .text + 4096) room)
+  stops-not h f room = rw (f, le-ltb (length (h .stand .text)) (h .stand .run .progress .text + 8211) room)
 
   reads-some : (h : HostStand) (records : ℕ) → Held h → Room h → 0 < length (take (records * 32) (h .left))
-      → passed timeout retries h records .run .progress .read ≡ 0 → AllRead h
+      → passed settings h records .run .progress .read ≡ 0 → AllRead h
   reads-some h records a room some e = go (eqb (h .stand .run .progress .number) 65535) refl
     where
       go : (b : Bool) → eqb (h .stand .run .progress .number) 65535 ≡ b → AllRead h
@@ -249,21 +249,21 @@ first-few : first .number + 65535 ≡ 65535
 unfolding first
 first-few = refl
 
-first-held : (timeout retries : Parameter) (input text : Bytes) → Held timeout retries (linesWith timeout retries input) (begins input text)
-first-held timeout retries input text = record { most = 65535; few = first-few; same = refl; neat = first-neat }
+first-held : (settings : Settings) (input text : Bytes) → Held settings (linesWith settings input) (begins input text)
+first-held settings input text = record { most = 65535; few = first-few; same = refl; neat = first-neat }
 
-module _ (timeout retries : Parameter) (input text : Bytes) (steps : List Step) where
-  any-steps : Held timeout retries (linesWith timeout retries input) (afterSteps timeout retries (begins input text) steps)
-  any-steps = steps-held timeout retries (linesWith timeout retries input) steps (begins input text) (first-held timeout retries input text)
+module _ (settings : Settings) (input text : Bytes) (steps : List Step) where
+  any-steps : Held settings (linesWith settings input) (afterSteps settings (begins input text) steps)
+  any-steps = steps-held settings (linesWith settings input) steps (begins input text) (first-held settings input text)
 
 pub pieces-join : PiecesJoin
 unfolding PiecesJoin
-pieces-join timeout retries input text steps =
-    all-read timeout retries (linesWith timeout retries input) (afterSteps timeout retries (begins input text) steps)
-    (any-steps timeout retries input text steps)
+pieces-join settings input text steps =
+    all-read settings (linesWith settings input) (afterSteps settings (begins input text) steps)
+    (any-steps settings input text steps)
 
 pub none-read : NoneRead
 unfolding NoneRead
-none-read timeout retries input text steps records =
-    reads-some timeout retries (linesWith timeout retries input) (afterSteps timeout retries (begins input text) steps) records
-    (any-steps timeout retries input text steps)
+none-read settings input text steps records =
+    reads-some settings (linesWith settings input) (afterSteps settings (begins input text) steps) records
+    (any-steps settings input text steps)

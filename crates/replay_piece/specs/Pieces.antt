@@ -2,7 +2,6 @@
 -- records, or fewer where the input ends, so that only the last piece ends inside a record. It gets the run and the slices as the call before left them.
 -- Between calls the host may write the text out and begin it anew. Where the text is full a call reads less than it gets, and the next one gets the rest.
 use Prim.Native.Nat.{ℕ, _+_, _*_, _<_, _≤_}
-use mathlib.Core.Bool.{false}
 use mathlib.Core.List.{List, [], _∷_, _++_}
 use mathlib.Core.Logic.{_⊎_}
 use mathlib.Core.Path.{_≡_}
@@ -10,7 +9,7 @@ use lib.ListN.{length, take, drop}
 use Rattle.codec.specs.Bytes.{Bytes}
 use Rattle.replay_line.specs.Line.{mostLine}
 use Rattle.replay_piece.specs.Piece.{Stand, pieceOf, runOf}
-use Rattle.replay_piece.specs.Types.{Parameter}
+use Rattle.replay_piece.specs.Types.{LastValue, Settings}
 use Rattle.replay_piece.specs.Whole.{first, linesWith, mostRecords, recordSize}
 
 -- the next call, with up to so many records; or the text is written out
@@ -39,7 +38,7 @@ emptied s =
             number = s .run .progress .number;
             read = s .run .progress .read;
             text = 0;
-            complete = s .run .progress .complete;
+            value = s .run .progress .value;
           });
       store = s .store;
       gather = s .gather;
@@ -47,13 +46,19 @@ emptied s =
       text = s .text;
     }
 
+-- no record was answered a value
+abbrev pub noValue : LastValue
+noValue = record { «record» = 0; at = record { start = 0; length = 0 } }
+
 -- at first nothing is read and nothing written; the text's buffer is any
 abbrev pub begins : Bytes → Bytes → HostStand
 begins input text =
     record {
       stand =
           record {
-            run = runOf (first .manager) (record { gathered = first .gathered; number = first .number; read = 0; text = 0; complete = false });
+            run =
+                runOf (first .manager)
+                (record { gathered = first .gathered; number = first .number; read = 0; text = 0; value = noValue });
             store = first .store;
             gather = first .gather;
             output = first .output;
@@ -70,12 +75,12 @@ Room h = h .stand .run .progress .text + mostLine ≤ length (h .stand .text)
 abbrev pub AllRead : HostStand → Type 0
 AllRead h = (h .left ≡ []) ⊎ (h .stand .run .progress .number ≡ mostRecords)
 
-module _ (timeout retries : Parameter) where
+module _ (settings : Settings) where
   -- what a call of `replay_piece` with the next records promises
   unfoldable pub passed : HostStand → ℕ → Stand
   passed h records =
       let s : Stand = h .stand in
-      pieceOf (s .run) timeout retries (take (records * recordSize) (h .left)) (s .store) (s .gather) (s .output) (s .text)
+      pieceOf (s .run) settings (take (records * recordSize) (h .left)) (s .store) (s .gather) (s .output) (s .text)
 
   abbrev pub afterStep : HostStand → Step → HostStand
   afterStep h (passes records) =
@@ -86,16 +91,16 @@ module _ (timeout retries : Parameter) where
   afterSteps h [] = h
   afterSteps h (x ∷ xs) = afterSteps (afterStep h x) xs
 
--- The law: whatever the steps, once all is read, what was written and the text that is left are all lines of the input.
+-- The law: whatever the steps, once all is read, what was written and the text that is left are all lines of the input, or all its values, as the settings say.
 unfoldable pub PiecesJoin : Type 0
 PiecesJoin =
-    (timeout retries : Parameter) (input text : Bytes) (steps : List Step)
-    → let h : HostStand = afterSteps timeout retries (begins input text) steps in
-    AllRead h → h .printed ++ textOf (h .stand) ≡ linesWith timeout retries input
+    (settings : Settings) (input text : Bytes) (steps : List Step)
+    → let h : HostStand = afterSteps settings (begins input text) steps in
+    AllRead h → h .printed ++ textOf (h .stand) ≡ linesWith settings input
 
 -- And a host can tell when all is read: a call that gets a byte at least, and room for a line, reads none only then.
 unfoldable pub NoneRead : Type 0
 NoneRead =
-    (timeout retries : Parameter) (input text : Bytes) (steps : List Step) (records : ℕ)
-    → let h : HostStand = afterSteps timeout retries (begins input text) steps in
-    Room h → 0 < length (take (records * recordSize) (h .left)) → passed timeout retries h records .run .progress .read ≡ 0 → AllRead h
+    (settings : Settings) (input text : Bytes) (steps : List Step) (records : ℕ)
+    → let h : HostStand = afterSteps settings (begins input text) steps in
+    Room h → 0 < length (take (records * recordSize) (h .left)) → passed settings h records .run .progress .read ≡ 0 → AllRead h

@@ -1,15 +1,18 @@
 -- The replay as a whole (document 01, "Replay"): from the bytes of an input to all its lines. Its records, 32 bytes each, are taken one after another.
--- What a record asks for and what comes of it are `recordAsks` and `granted` (replay_record's Request); its line is `lineOf` (replay_line's Line).
+-- What a record asks for and what comes of it are `recordAsks` and `granted` (replay_record's Request); its line is `lineOf` (replay_line's Line). And
+-- `values`, which reads the same records: its lines are `valueText` (replay_line's Value).
 use Prim.Native.Nat.{ℕ, zero, suc, _+_}
 use mathlib.Core.List.{[], _∷_, _++_}
 use lib.ListN.{take, drop, replicate}
 use Rattle.codec.specs.Bytes.{Bytes}
 use Rattle.man_table.specs.Table.{newManager, storeSize}
 use Rattle.manager.specs.Calls.{After, outputSize}
+use Rattle.manager.specs.Value.{objectOf}
 use Rattle.replay_line.specs.Line.{lineOf}
+use Rattle.replay_line.specs.Value.{nodeOf, valueText}
 use Rattle.replay_record.specs.Gather.{gatherSize}
 use Rattle.replay_record.specs.Request.{Asked, granted, recordAsks}
-use Rattle.replay_piece.specs.Types.{Parameter, SdoClientManager}
+use Rattle.replay_piece.specs.Types.{Parameter, SdoClientManager, Settings, Shows}
 
 abbrev pub recordSize : ℕ
 recordSize = 32
@@ -39,16 +42,21 @@ first =
       number = 0;
     }
 
-module _ (timeout retries : Parameter) where
-  -- a record: what it asks for, what comes of that, its line, and the state after it
+-- What is written of a record, by the manager ahead of it and what came of it: the replay's line; or the line of its value, where it ended a read Complete.
+abbrev pub shown : Shows → ℕ → Bytes → SdoClientManager → After → Bytes
+shown Shows.Lines number b m a = lineOf number b (a .done .answer) (a .done .ends) (a .output)
+shown Shows.Values number b m a = valueText number b (objectOf m (nodeOf b)) (a .done .answer) (a .store)
+
+module _ (settings : Settings) where
+  -- a record: what it asks for, what comes of that, what is written of it, and the state after it
   abbrev pub asked : State → Bytes → Asked
-  asked s b = recordAsks (s .gathered) b timeout retries (s .gather)
+  asked s b = recordAsks (s .gathered) b (settings .timeout) (settings .retries) (s .gather)
 
   abbrev pub result : State → Bytes → After
   result s b = granted (s .manager) (s .store) (s .output) (asked s b .request)
 
   abbrev pub line : State → Bytes → Bytes
-  line s b = lineOf (s .number + 1) b (result s b .done .answer) (result s b .done .ends) (result s b .output)
+  line s b = shown (settings .shows) (s .number + 1) b (s .manager) (result s b)
 
   unfoldable pub next : State → Bytes → State
   next s b =
@@ -72,6 +80,12 @@ module _ (timeout retries : Parameter) where
   abbrev pub linesWith : Bytes → Bytes
   linesWith input = linesFrom mostRecords first input
 
--- The replay has timeout and retries absent.
+-- The replay and `values` have timeout and retries absent.
+abbrev pub absent : Shows → Settings
+absent shows = record { shows = shows; timeout = Parameter.Absent; retries = Parameter.Absent }
+
 abbrev pub allLines : Bytes → Bytes
-allLines input = linesWith Parameter.Absent Parameter.Absent input
+allLines input = linesWith (absent Shows.Lines) input
+
+abbrev pub allValues : Bytes → Bytes
+allValues input = linesWith (absent Shows.Values) input

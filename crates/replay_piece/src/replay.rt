@@ -9,13 +9,16 @@ ghost use Rattle.manager.specs.Plan.{planDone};
 ghost use Rattle.con_rec.specs.Record.{endOf};
 ghost use Rattle.man_table.specs.Sweep.{endHere};
 ghost use Rattle.replay_record.specs.Request.{askedPlan, recordAsks};
-ghost use Rattle.replay_piece.specs.Moves.{movedLine, movedRun, planMoves};
-ghost use Rattle.replay_piece.specs.Piece.{pieceOf, runOf};
-use crate::told::complete;
+ghost use Rattle.replay_piece.specs.Moves.{movedLine, movedRun, moves as movesBy};
+ghost use Rattle.replay_piece.specs.Piece.{pieceOf, runOf, lastBy, valueAfter};
 use crate::told::told;
 use crate::told::told_quiet;
+use crate::told::told_value;
+use crate::types::LastValue;
 use crate::types::Progress;
 use crate::types::Run;
+use crate::types::Settings;
+use crate::types::Shows;
 use codec::octets::part;
 use con_rec::EndFound;
 use con_rec::Parameter;
@@ -26,8 +29,11 @@ use man_table::types::Entry;
 use man_table::types::SdoClientManager;
 use manager::change::number_after;
 use manager::plan::carry_out;
+use manager::types::Answer;
 use manager::types::Plan;
+use manager::value::object_of;
 use replay_line::line::MOST_LINE;
+use replay_line::value::node_of;
 use replay_record::plan::RecordPlan;
 use replay_record::plan::plan_record;
 use replay_record::record::RECORD_SIZE;
@@ -41,12 +47,45 @@ fn run_of(manager: SdoClientManager, progress: Progress) -> Run
     Run { manager, progress }
 }
 
-// A record whose plan moves the manager: a connection ended or is entered, or several may change.
-fn moved(run: Run, plan: Plan, b: &[u8], store: &[u8], output: &mut [u8], text: &mut [u8]) -> Run
+fn last_by(answer: Answer, p: Progress) -> LastValue
+    ensures { λ r. ⌜ r ≡ lastBy answer (p .number) (p .value) ⌝ }
+{
+    let last = p.value;
+    match answer {
+        Answer::Nothing => last,
+        Answer::Sent(_) => last,
+        Answer::Value(at) => LastValue {
+            record: p.number,
+            at,
+        },
+        Answer::Refused(_) => last,
+    }
+}
+
+// The last value after a record by which so many jobs ended. A value comes only with an end, so mostly the answer need not be looked at.
+fn value_after(ended: usize, answer: Answer, p: Progress) -> LastValue
+    ensures { λ r. ⌜ r ≡ valueAfter ended answer (p .number) (p .value) ⌝ }
+{
+    if ended == 0 {
+        return p.value;
+    }
+    last_by(answer, p)
+}
+
+// A record whose plan is carried out by value: it moves the manager, or values are shown.
+fn moved(
+    run: Run,
+    shows: Shows,
+    plan: Plan,
+    b: &[u8],
+    store: &[u8],
+    output: &mut [u8],
+    text: &mut [u8],
+) -> Run
     requires { ⌜ run .progress .text + mostLine ≤ length (now text) ⌝ }
-    ensures { λ r. ⌜ r ≡ movedRun run plan (now (b .entry)) (now (store .entry)) (now (output .entry)) ⌝ }
+    ensures { λ r. ⌜ r ≡ movedRun run shows plan (now (b .entry)) (now (store .entry)) (now (output .entry)) ⌝ }
     ensures { λ _. ⌜ now (output .exit) ≡ planDone plan (run .manager) (now (store .entry)) (now (output .entry)) .output ⌝ }
-    ensures { λ _. ⌜ now (text .exit) ≡ placed (now (text .entry)) (run .progress .text) (movedLine run plan (now (b .entry)) (now (store .entry)) (now (output .entry))) ⌝ }
+    ensures { λ _. ⌜ now (text .exit) ≡ placed (now (text .entry)) (run .progress .text) (movedLine run shows plan (now (b .entry)) (now (store .entry)) (now (output .entry))) ⌝ }
     ensures { λ _. ⌜ (length (now (output .exit)) ≡ length (now (output .entry))) × (length (now (text .exit)) ≡ length (now (text .entry))) ⌝ }
 {
     let m = run.manager;
@@ -55,14 +94,14 @@ fn moved(run: Run, plan: Plan, b: &[u8], store: &[u8], output: &mut [u8], text: 
     let manager = d.manager;
     let answer = d.answer;
     let ends = d.ends;
-    Run {
-        manager,
-        progress: Progress {
-            text: told(r.text, r.number, b, answer, ends, output, text),
-            complete: complete(ends),
-            ..r
-        },
+    let value = value_after(ends.count, answer, r);
+    if let Shows::Values = shows {
+        let object = object_of(m, node_of(b));
+        let text = told_value(r.text, r.number, b, object, answer, store, text);
+        return run_of(manager, Progress { text, value, ..r });
     }
+    let text = told(r.text, r.number, b, answer, ends, output, text);
+    run_of(manager, Progress { text, value, ..r })
 }
 
 // Whether a connection has ended.
@@ -75,10 +114,13 @@ fn ended(c: SdoClientConnection) -> bool
     false
 }
 
-// Whether a record's plan moves the manager.
-fn moves(plan: Plan) -> bool
-    ensures { λ r. ⌜ r ≡ planMoves plan ⌝ }
+// Whether a record's plan is carried out by value: it moves the manager, or values are shown.
+fn moves(shows: Shows, plan: Plan) -> bool
+    ensures { λ r. ⌜ r ≡ movesBy shows plan ⌝ }
 {
+    let Shows::Lines = shows else {
+        return true;
+    };
     let Plan::Change(change) = plan else {
         return true;
     };
@@ -121,26 +163,28 @@ fn full_at(len: usize) -> usize
     len - MOST_LINE + 1
 }
 
-// The records of a piece, as many as the text has room for, and no more than 65,535 in all: where the run is after them. Most leave the manager where
-// it is, and change one connection of it at most. A store, gather buffer or output of another size is each record's refusal, 9 or 1. What is left
+// The records of a piece, as many as the text has room for, and no more than 65,535 in all: where the run is after them. Where lines are shown, most leave
+// the manager where it is, and change one connection of it at most; where values are shown, each is carried out by value. A store, gather buffer or output of another size is each record's refusal, 9 or 1. What is left
 // at the end of a piece is a short record: pieces but the last have whole ones.
 pub fn replay_piece(
     run: Run,
-    timeout: Parameter,
-    retries: Parameter,
+    settings: Settings,
     input: &[u8],
     store: &mut [u8],
     gather: &mut [u8],
     output: &mut [u8],
     text: &mut [u8],
 ) -> Run
-    ensures { λ r. ⌜ r ≡ pieceOf run timeout retries (now (input .entry)) (now (store .entry)) (now (gather .entry)) (now (output .entry)) (now (text .entry)) .run ⌝ }
-    ensures { λ _. ⌜ now (store .exit) ≡ pieceOf run timeout retries (now (input .entry)) (now (store .entry)) (now (gather .entry)) (now (output .entry)) (now (text .entry)) .store ⌝ }
-    ensures { λ _. ⌜ now (gather .exit) ≡ pieceOf run timeout retries (now (input .entry)) (now (store .entry)) (now (gather .entry)) (now (output .entry)) (now (text .entry)) .gather ⌝ }
-    ensures { λ _. ⌜ now (output .exit) ≡ pieceOf run timeout retries (now (input .entry)) (now (store .entry)) (now (gather .entry)) (now (output .entry)) (now (text .entry)) .output ⌝ }
-    ensures { λ _. ⌜ now (text .exit) ≡ pieceOf run timeout retries (now (input .entry)) (now (store .entry)) (now (gather .entry)) (now (output .entry)) (now (text .entry)) .text ⌝ }
+    ensures { λ r. ⌜ r ≡ pieceOf run settings (now (input .entry)) (now (store .entry)) (now (gather .entry)) (now (output .entry)) (now (text .entry)) .run ⌝ }
+    ensures { λ _. ⌜ now (store .exit) ≡ pieceOf run settings (now (input .entry)) (now (store .entry)) (now (gather .entry)) (now (output .entry)) (now (text .entry)) .store ⌝ }
+    ensures { λ _. ⌜ now (gather .exit) ≡ pieceOf run settings (now (input .entry)) (now (store .entry)) (now (gather .entry)) (now (output .entry)) (now (text .entry)) .gather ⌝ }
+    ensures { λ _. ⌜ now (output .exit) ≡ pieceOf run settings (now (input .entry)) (now (store .entry)) (now (gather .entry)) (now (output .entry)) (now (text .entry)) .output ⌝ }
+    ensures { λ _. ⌜ now (text .exit) ≡ pieceOf run settings (now (input .entry)) (now (store .entry)) (now (gather .entry)) (now (output .entry)) (now (text .entry)) .text ⌝ }
 {
     let full = full_at(text.len());
+    let shows = settings.shows;
+    let timeout = settings.timeout;
+    let retries = settings.retries;
     let mut m = swept(run.manager);
     let mut r = run.progress;
     let mut at: usize = 0;
@@ -155,8 +199,8 @@ pub fn replay_piece(
         let plan = planned.plan;
         r.number += 1;
         r.gathered = planned.gathered;
-        if moves(plan) {
-            let after = moved(run_of(m, r), plan, b, store, output, text);
+        if moves(shows, plan) {
+            let after = moved(run_of(m, r), shows, plan, b, store, output, text);
             m = after.manager;
             r = after.progress;
             continue;
@@ -174,7 +218,6 @@ pub fn replay_piece(
         }
         m.next_transaction_id = number_after(change, m.next_transaction_id);
         r.text = told_quiet(r.text, r.number, b, answer, output, text);
-        r.complete = false;
     }
     r.read = at;
     run_of(m, r)

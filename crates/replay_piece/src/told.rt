@@ -4,14 +4,15 @@ ghost use Prim.Native.Nat.{_+_, _≤_};
 ghost use lib.ListN.{length};
 ghost use Rattle.codec.specs.Bytes.{placed};
 ghost use Rattle.replay_line.specs.Line.{lineOf, mostLine};
+ghost use Rattle.replay_line.specs.Value.{valueText};
 ghost use Rattle.man_table.specs.Sweep.{noEnds};
-ghost use Rattle.replay_piece.specs.Piece.{completes, isComplete};
 use codec::sequence::Written;
-use con_rec::Reason;
+use con_rec::PendingRead;
 use man_table::types::Ends;
 use manager::types::Answer;
 use replay_line::line::write_line;
 use replay_line::line::write_quiet_line;
+use replay_line::value::write_value;
 
 pub(crate) fn told(
     at: usize,
@@ -55,29 +56,24 @@ pub(crate) fn told_quiet(
     at + n
 }
 
-fn is_complete(r: Reason) -> bool
-    ensures { λ b. ⌜ b ≡ isComplete r ⌝ }
+// The line of the value that a record was answered, if it was.
+pub(crate) fn told_value(
+    at: usize,
+    number: u16,
+    b: &[u8],
+    object: PendingRead,
+    answer: Answer,
+    store: &[u8],
+    text: &mut [u8],
+) -> usize
+    requires { ⌜ at + mostLine ≤ length (now text) ⌝ }
+    ensures { λ r. ⌜ r ≡ at + length (valueText number (now (b .entry)) object answer (now (store .entry))) ⌝ }
+    ensures { λ _. ⌜ now (text .exit) ≡ placed (now (text .entry)) at (valueText number (now (b .entry)) object answer (now (store .entry))) ⌝ }
+    ensures { λ _. ⌜ length (now (text .exit)) ≡ length (now (text .entry)) ⌝ }
 {
-    match r {
-        Reason::Complete => true,
-        Reason::Cut => false,
-        Reason::OpenRefused => false,
-        Reason::Sequence => false,
-        Reason::PeerAborted(_) => false,
-        Reason::Timeout => false,
-        Reason::BadSegment => false,
-    }
-}
-
-// Whether the first job that ended is Complete.
-pub(crate) fn complete(ends: Ends) -> bool
-    ensures { λ r. ⌜ r ≡ completes ends ⌝ }
-{
-    if ends.count == 0 {
-        return false;
-    }
-    let list = ends.list;
-    let end = list[0];
-    let reason = end.reason;
-    is_complete(reason)
+    let Written::Bytes(n) = write_value(text, at, number, b, object, answer, store) else {
+        // never: the line has room
+        return at;
+    };
+    at + n
 }

@@ -84,6 +84,7 @@ module _ (b : Bytes) where
 abbrev Gathers : Answer → Type 0
 Gathers Answer.Nothing = Unit {0}
 Gathers (Answer.Sent s) = Unit {0}
+Gathers (Answer.Value part) = Unit {0}
 Gathers (Answer.Refused r) = ⊥
 
 gather-goes : (already more : ℕ) → Answers Answer.Refused Gathers (gatherChecks already more) (gatheredWith already more .answer)

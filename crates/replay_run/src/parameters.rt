@@ -1,22 +1,26 @@
-// What a run goes by: timeout and retries, and whether each line is followed by the manager's state.
+// What a run goes by: what it writes of each record, timeout and retries, and whether the manager's state follows each line.
 ghost use Prim.Native.Nat.{_≤_};
 use crate::state::byte;
 use codec::octets::joined16;
 use codec::octets::joined32;
 use con_rec::Parameter;
 use libc::STDIN_FILENO;
+use replay_piece::types::Settings;
+use replay_piece::types::Shows;
 
 pub struct Parameters {
-    pub timeout: Parameter,
-    pub retries: Parameter,
+    pub settings: Settings,
     pub states: bool,
 }
 
-// The replay's own: both absent, lines alone.
-pub(crate) fn absent() -> Parameters {
+// Those of the replay and of values: timeout and retries absent, no states.
+pub(crate) fn absent(shows: Shows) -> Parameters {
     Parameters {
-        timeout: Parameter::Absent,
-        retries: Parameter::Absent,
+        settings: Settings {
+            shows,
+            timeout: Parameter::Absent,
+            retries: Parameter::Absent,
+        },
         states: false,
     }
 }
@@ -47,8 +51,11 @@ pub(crate) fn read_parameters() -> Parameters {
     let timeout = parameter(&head, 0);
     let retries = parameter(&head, 5);
     Parameters {
-        timeout,
-        retries,
+        settings: Settings {
+            shows: Shows::Lines,
+            timeout,
+            retries,
+        },
         states: true,
     }
 }

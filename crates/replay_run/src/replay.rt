@@ -1,9 +1,9 @@
-// The replay (document 01, "Replay"): records of 32 bytes, a line for each. For comparisons each line is followed by the manager's state.
+// The replay (document 01, "Replay"): records of 32 bytes, a line for each; for comparisons each line is followed by the manager's state. And values
+// (document 02, CR 1): the same records, a line for each read that ends Complete.
 use crate::parameters::Parameters;
 use crate::parameters::absent;
 use crate::parameters::read_parameters;
 use crate::state::print_state;
-use crate::state::upload_before;
 use codec::octets::part;
 use con_rec::numbers::at_most;
 use libc::STDERR_FILENO;
@@ -12,10 +12,13 @@ use libc::STDOUT_FILENO;
 use man_table::types::STORE_SIZE;
 use man_table::types::SdoClientManager;
 use manager::types::OUTPUT_SIZE;
+use manager::types::StorePart;
 use replay_line::line::MOST_LINE;
 use replay_piece::replay::replay_piece;
+use replay_piece::types::LastValue;
 use replay_piece::types::Progress;
 use replay_piece::types::Run;
+use replay_piece::types::Shows;
 use replay_record::gather::GATHER_SIZE;
 use replay_record::record::RECORD_SIZE;
 
@@ -27,7 +30,13 @@ fn started() -> Run {
             number: 0,
             read: 0,
             text: 0,
-            complete: false,
+            value: LastValue {
+                record: 0,
+                at: StorePart {
+                    start: 0,
+                    length: 0,
+                },
+            },
         },
     }
 }
@@ -50,7 +59,7 @@ fn write_out(text: &[u8; BUFFER_SIZE], n: usize) -> bool {
     if io::write_all(STDOUT_FILENO, part(text, 0, n)) {
         return true;
     }
-    io::write_all(STDERR_FILENO, b"replay: cannot write to standard output\n");
+    io::write_all(STDERR_FILENO, b"cannot write to standard output\n");
     false
 }
 
@@ -72,7 +81,7 @@ fn written(run: Run, text: &[u8; BUFFER_SIZE]) -> Run {
     }
 }
 
-// The text goes out where a line of 4,096 bytes might not fit any more.
+// The text goes out where the longest line might not fit any more.
 fn flushed(run: Run, text: &[u8; BUFFER_SIZE]) -> Run {
     let progress = run.progress;
     if progress.text <= BUFFER_SIZE - MOST_LINE {
@@ -91,13 +100,9 @@ fn one_shown(
     output: &mut [u8; OUTPUT_SIZE],
     text: &mut [u8; BUFFER_SIZE],
 ) -> Run {
-    let before = run.manager;
-    let r = run.progress;
-    let timeout = p.timeout;
-    let retries = p.retries;
+    let settings = p.settings;
     let b = part(input, 0, at_most(input.len(), RECORD_SIZE));
-    let upload = upload_before(before, r.gathered, b);
-    let after = replay_piece(run, timeout, retries, b, store, gather, output, text);
+    let after = replay_piece(run, settings, b, store, gather, output, text);
     let manager = after.manager;
     let progress = after.progress;
     if progress.read == 0 {
@@ -106,7 +111,7 @@ fn one_shown(
     let shown = written(after, text);
     let now = shown.progress;
     if now.read != 0 {
-        print_state(manager, upload, progress.complete, store);
+        print_state(manager, progress, store);
     }
     shown
 }
@@ -121,12 +126,11 @@ fn some(
     output: &mut [u8; OUTPUT_SIZE],
     text: &mut [u8; BUFFER_SIZE],
 ) -> Run {
-    let timeout = p.timeout;
-    let retries = p.retries;
+    let settings = p.settings;
     if p.states {
         return one_shown(run, p, input, store, gather, output, text);
     }
-    let after = replay_piece(run, timeout, retries, input, store, gather, output, text);
+    let after = replay_piece(run, settings, input, store, gather, output, text);
     flushed(after, text)
 }
 
@@ -192,7 +196,14 @@ fn run_by(p: Parameters) {
 pub fn replay()
     ensures { λ _. ⊤ₛ }
 {
-    run_by(absent());
+    run_by(absent(Shows::Lines));
+}
+
+// The value of each read that ends Complete, of the same records.
+pub fn values()
+    ensures { λ _. ⊤ₛ }
+{
+    run_by(absent(Shows::Values));
 }
 
 // Replays standard input with the parameters at its head, and shows the manager's state after each record.

@@ -7,16 +7,10 @@ use con_rec::SdoClientConnection;
 use con_rec::SdoClientConnectionState;
 use console::number;
 use console::text;
-use man_table::types::ROOM_SIZE;
 use man_table::types::SdoClientManager;
 use manager::next::next_action_time;
-use replay_record::gather::MOST_GATHERED;
-
-// An upload that a reply may end: its room, and how many bytes it will have brought.
-pub enum Upload {
-    Of { room: usize, bytes: usize },
-    Nothing,
-}
+use manager::value::value_in;
+use replay_piece::types::Progress;
 
 pub(crate) fn byte(b: &[u8], at: usize) -> u8 {
     if at < b.len() {
@@ -120,69 +114,25 @@ fn held(m: SdoClientManager, store: &[u8]) {
     }
 }
 
-fn upload_of(c: SdoClientConnection, more: usize) -> Upload {
-    let state = c.state;
-    let job = c.job;
-    let before = match state {
-        SdoClientConnectionState::UploadInit => 0,
-        SdoClientConnectionState::UploadInProgress => job.uploaded,
-        _ => return Upload::Nothing,
-    };
-    if before <= ROOM_SIZE {
-        if more <= 2 * ROOM_SIZE {
-            return Upload::Of {
-                room: c.room,
-                bytes: before + more,
-            };
-        }
+// What a read brought that this record ended Complete: how many bytes, and their sum.
+fn read(p: Progress, store: &[u8]) {
+    let last = p.value;
+    if last.record != p.number {
+        text(b"-");
+        return;
     }
-    Upload::Nothing
+    let at = last.at;
+    let value = value_in(store, at);
+    number(value.len() as u64);
+    next(sum(value));
 }
 
-// The upload of the node that a record replies for.
-pub(crate) fn upload_before(m: SdoClientManager, gathered: usize, b: &[u8]) -> Upload {
-    let list = m.connections;
-    if byte(b, 0) != 4 {
-        return Upload::Nothing;
-    }
-    if MOST_GATHERED < gathered {
-        return Upload::Nothing;
-    }
-    let mut i: usize = 0;
-    while i < 8 {
-        if m.count <= i {
-            break;
-        }
-        let c = list[i];
-        if c.target_node_id == byte(b, 1) {
-            return upload_of(c, gathered + byte(b, 5) as usize);
-        }
-        i += 1;
-    }
-    Upload::Nothing
-}
-
-// What an upload brought, where the reply ended it Complete.
-fn read(u: Upload, ended: bool, store: &[u8]) {
-    match u {
-        Upload::Of { room, bytes } => {
-            if ended {
-                number(bytes as u64);
-                next(sum(part(store, room, bytes)));
-                return;
-            }
-            text(b"-");
-        }
-        Upload::Nothing => text(b"-"),
-    }
-}
-
-pub(crate) fn print_state(m: SdoClientManager, u: Upload, ended: bool, store: &[u8]) {
+pub(crate) fn print_state(m: SdoClientManager, p: Progress, store: &[u8]) {
     text(b"= ");
     deadline(next_action_time(m));
     text(b" ");
     held(m, store);
     text(b" ");
-    read(u, ended, store);
+    read(p, store);
     text(b"\n");
 }

@@ -14,12 +14,15 @@ use Rattle.con_reply.specs.Reply.{replied, replyOf, roomAfter}
 use Rattle.laws.proofs.Choices.{decided}
 use Rattle.manager.specs.Calls.{After, Effect, called, carriedOut, outputSize, replies, replyAt, replyBy, replyFrom, roomIn, sentTo, turnOf, turns, walkedTo, withRoom}
 use Rattle.manager.specs.Change.{putting, same}
+use Rattle.manager.specs.Value.{valueOf}
+use Rattle.manager.proofs.ValueCases.{value-by}
 use Rattle.manager.proofs.PlanCalls.{put-done, same-done}
 use Rattle.man_table.specs.Sweep.{endsIn, endsOf, running}
 use Rattle.man_table.specs.Table.{blank, findIn, live, oneFurther, storeSize, tableOf, heldAt}
 use Rattle.man_table.specs.Walk.{Walking, refused, stopped, through, walkList}
 use Rattle.theorems.specs.Run.{reported}
 use Rattle.theorems.specs.Sound.{All}
+use Rattle.theorems.specs.Story.{Story, gaveTo, none, unlessRefused}
 use Rattle.theorems.specs.Types.{
   Answer,
   Taken,
@@ -104,7 +107,7 @@ module _ (m : Manager) (node : ℕ) (seq : SequenceLayerHeader) (cmd : SdoComman
     → P (tableOf (running (set (live m) k d)) (m .«next_transaction_id»))
     (withRoom store (heldAt m k)
     (roomAfter (replyOf seq cmd payload (heldAt m k) (roomIn store (heldAt m k))) payload (roomIn store (heldAt m k))))
-    output Answer.Nothing (endsIn (set (live m) k d))) where
+    output (valueOf d) (endsIn (set (live m) k d))) where
   abbrev Replies : Effect → Type 0
   Replies e = Of P (carriedOut m e output)
 
@@ -115,11 +118,11 @@ module _ (m : Manager) (node : ℕ) (seq : SequenceLayerHeader) (cmd : SdoComman
     answered : (d : Connection) (x : Decision) → replyOf seq cmd payload (heldAt m k) (roomIn store (heldAt m k)) ≡ x
         → replied x ≡ Taken.Connection d
         → Replies (record {
-          change = putting (Entry.At k d) Answer.Nothing;
+          change = putting (Entry.At k d) (valueOf d);
           store = withRoom store (heldAt m k) (roomAfter x payload (roomIn store (heldAt m k)));
         })
     answered d x e f =
-        rw (put-done m k d Answer.Nothing, ends-told (endsIn (set (live m) k d)), ← e) (answers k d long at (ap replied e ∙ f))
+        rw (put-done m k d (valueOf d), ends-told (endsIn (set (live m) k d)), ← e) (answers k d long at (ap replied e ∙ f))
 
     decides : (x : Decision) → replyOf seq cmd payload (heldAt m k) (roomIn store (heldAt m k)) ≡ x
         → Replies (replyBy x k (heldAt m k) payload store)
@@ -137,3 +140,10 @@ module _ (m : Manager) (node : ℕ) (seq : SequenceLayerHeader) (cmd : SdoComman
       decided Replies (eqb (length store) storeSize) _ _
       (λ e. found (eqb-true _ _ e) (findIn node (live m)) (found-as node (live m)))
       (λ e. left (Answer.Refused Refusal.WrongStore) (refuses Refusal.WrongStore))
+
+-- ---- what a reply answers gives no command, and is no refusal
+pub gives-none : (node : ℕ) (output : Bytes) (d : Connection) → gaveTo node output (valueOf d) ≡ none
+gives-none node output = value-by (λ (a : Answer). gaveTo node output a ≡ none) refl (λ part. refl)
+
+pub not-refused : (s t : Story) (d : Connection) → t ≡ unlessRefused (valueOf d) s t
+not-refused s t = value-by (λ (a : Answer). t ≡ unlessRefused a s t) refl (λ part. refl)

@@ -21,6 +21,7 @@ use Rattle.theorems.proofs.JobStarts.{JobView, job-view}
 abbrev pub Unrefused : Answer → Type 0
 Unrefused Answer.Nothing = Unit {0}
 Unrefused (Answer.Sent s) = Unit {0}
+Unrefused (Answer.Value part) = Unit {0}
 Unrefused (Answer.Refused r) = ⊥
 
 abbrev pub Answers : List (Check Refusal) → Answer → Type 0

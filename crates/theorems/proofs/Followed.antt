@@ -51,6 +51,7 @@ use Rattle.theorems.specs.Types.{
   Turn,
 }
 use Rattle.theorems.proofs.AllReached.{event-sound}
+use Rattle.theorems.proofs.Cases.{not-refused}
 use Rattle.theorems.proofs.JobStarts.{began}
 use Rattle.theorems.proofs.NodeView.{Apart, NodeView, Seat, answers, begins, bytesIn, bytesOf, gaveBy, idles, rests, steps, unknown}
 use Rattle.theorems.proofs.NodeSees.{event-view, held-is}
@@ -65,12 +66,12 @@ module _ (entries : List Bytes) (Runs : Running) (Ends : Ending) (kept : Kept en
     pub awaits : AwaitsAs (s .awaits) (c .waiting .«last_sent_command») (c .«last_received_sequence_number»)
     pub is : Runs s room (c .state) (c .job)
 
-  abbrev OnBy : Story → Bytes → Connection → Outcome → Type 0
+  abbrev pub OnBy : Story → Bytes → Connection → Outcome → Type 0
   OnBy s room d Outcome.Running =
       AwaitsAs (s .awaits) (d .waiting .«last_sent_command») (d .«last_received_sequence_number») × Runs s room (d .state) (d .job)
   OnBy s room d (Outcome.Ended why) = Ends s room why (d .job)
 
-  abbrev Onward : Story → Bytes → Connection → Type 0
+  abbrev pub Onward : Story → Bytes → Connection → Type 0
   Onward s room d = OnBy s room d (d .outcome)
 
   stay : (s : Story) (room : Bytes) (d : Connection) → d .outcome ≡ Outcome.Running
@@ -249,6 +250,11 @@ module _ (entries : List Bytes) (Runs : Running) (Ends : Ending) (kept : Kept en
       taken-goes (Decision.Stores d from) l = l
       taken-goes Decision.NoRoom l = tt
 
+      pub reply-onward : (d : Connection) → replied (replyOf seq cmd payload c room) ≡ Taken.Connection d
+          → Onward h (roomAfter (replyOf seq cmd payload c room) payload room) d
+      reply-onward d e =
+          subst (TakenGoes (roomAfter (replyOf seq cmd payload c room) payload room)) e (taken-goes (replyOf seq cmd payload c room) reply-goes)
+
   -- ---- a call
   -- an end was reported: what is left
   pub record Over (s : Story) (why : Reason) (figure : ℕ) (room : Bytes) : Type 0 where
@@ -283,6 +289,7 @@ module _ (entries : List Bytes) (Runs : Running) (Ends : Ending) (kept : Kept en
         decided (λ (t : Story). t ≡ s) (eqb k node) _ _ (λ e. refl) (λ e. refl)
     apart-told s (replies k seq cmd payload) Answer.Nothing (inr p) = absurd p
     apart-told s (replies k seq cmd payload) (Answer.Sent x) (inr p) = absurd p
+    apart-told s (replies k seq cmd payload) (Answer.Value part) (inr p) = absurd p
 
     rest : (s : Story) (h : Holding) (x : Call) (a : Answer) → Apart node x a → Steps s h x a none EndFound.Running h (bytesOf h)
     rest s nothing x a p = tt
@@ -310,10 +317,8 @@ module _ (entries : List Bytes) (Runs : Running) (Ends : Ending) (kept : Kept en
         go Turn.Ticking f on = onward s room d (subst (StepGoes Turn.Ticking s room) f (tick-goes s c room on n))
     step s (answers {seq} {cmd} {payload} {c} {d} {room} e) =
         λ on i.
-        rw (eq-eqb node node refl)
-        (onward (heard entries s seq cmd payload) _ d
-        (subst (TakenGoes s c room on i seq cmd payload (roomAfter (replyOf seq cmd payload c room) payload room)) e
-        (taken-goes s c room on i seq cmd payload (replyOf seq cmd payload c room) (reply-goes s c room on i seq cmd payload))))
+        rw (eq-eqb node node refl, ← not-refused s (heard entries s seq cmd payload) d)
+        (onward (heard entries s seq cmd payload) _ d (reply-onward s c room on i seq cmd payload d e))
 
     -- ---- any calls
     -- what is held for the node, while no end was reported

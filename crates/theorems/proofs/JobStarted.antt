@@ -31,6 +31,7 @@ module _ (node : ℕ) where
   abbrev StartsIf : Call → Answer → Holding → Type 0
   StartsIf (starts k job n) Answer.Nothing after = k ≡ node → Started job n after
   StartsIf (starts k job n) (Answer.Sent s) after = Unit {0}
+  StartsIf (starts k job n) (Answer.Value part) after = Unit {0}
   StartsIf (starts k job n) (Answer.Refused r) after = Unit {0}
   StartsIf (turns t n) a after = Unit {0}
   StartsIf (replies k seq cmd payload) a after = Unit {0}
@@ -39,6 +40,7 @@ module _ (node : ℕ) where
   apart-starts (starts k job n) Answer.Nothing (inl ne) after = λ e. absurd (ne e)
   apart-starts (starts k job n) Answer.Nothing (inr p) after = absurd p
   apart-starts (starts k job n) (Answer.Sent s) p after = tt
+  apart-starts (starts k job n) (Answer.Value part) p after = tt
   apart-starts (starts k job n) (Answer.Refused r) p after = tt
   apart-starts (turns t n) a p after = tt
   apart-starts (replies k seq cmd payload) a p after = tt

@@ -35,6 +35,7 @@ pub mod TickRepeats
 pub mod Tracked
 pub mod TrackedWalk
 pub mod TurnChecks
+pub mod ValuesHanded
 pub mod WalkSteps
 pub mod WorkedRuns
 pub mod WrongStore

@@ -1,4 +1,4 @@
--- What no call of a connection changes: its node and its room.
+-- What no call of a connection changes: its node and its room; and what a reply does not change besides: what the job reads.
 use mathlib.Core.Path.{_≡_, refl, subst}
 use lib.Dec.{leb}
 use lib.ListN.{take}
@@ -32,14 +32,22 @@ abbrev pub StepBy : (Connection → Connection → Type 0) → Connection → St
 StepBy R c (Stepped.Went s) = R c (s .connection)
 StepBy R c (Stepped.Refused r) = Unit {0}
 
+-- and its job reads the same
+abbrev pub SameRead : Connection → Connection → Type 0
+SameRead c d = Same c d × (d .job .«pending_read» ≡ c .job .«pending_read»)
+
 abbrev DecisionSame : Connection → Decision → Type 0
-DecisionSame c (Decision.Keeps d) = Same c d
-DecisionSame c (Decision.Stores d from) = Same c d
+DecisionSame c (Decision.Keeps d) = SameRead c d
+DecisionSame c (Decision.Stores d from) = SameRead c d
 DecisionSame c Decision.NoRoom = Unit {0}
 
 abbrev pub TakenSame : Connection → Taken → Type 0
 TakenSame c (Taken.Connection d) = Same c d
 TakenSame c (Taken.Refused r) = Unit {0}
+
+abbrev TakenRead : Connection → Taken → Type 0
+TakenRead c (Taken.Connection d) = SameRead c d
+TakenRead c (Taken.Refused r) = Unit {0}
 
 module _ (c : Connection) where
   same : Same c c
@@ -65,39 +73,46 @@ module _ (c : Connection) where
       go (late e h r k) = tt
 
   -- ---- reply
-  next-same : (d : DcfStep) → Same c (replyNext d c)
-  next-same (DcfStep.Entry index sub start len next) = same
-  next-same DcfStep.End = same
-  next-same DcfStep.Unreadable = same
+  same-read : SameRead c c
+  same-read = (same, refl)
 
-  sent-same : (room : Bytes) (x : LoadedTransfer) → Same c (replySent x room c)
+  next-same : (d : DcfStep) → SameRead c (replyNext d c)
+  next-same (DcfStep.Entry index sub start len next) = same-read
+  next-same DcfStep.End = same-read
+  next-same DcfStep.Unreadable = same-read
+
+  sent-same : (room : Bytes) (x : LoadedTransfer) → SameRead c (replySent x room c)
   sent-same room (LoadedTransfer.Loaded t) =
-      either (Same c) (leb (total t) (c .job .offset)) _ c (next-same (dcfStep (take (c .job .size) room) (c .job .cursor))) same
-  sent-same room LoadedTransfer.Unloaded = same
+      either (SameRead c) (leb (total t) (c .job .offset)) _ c (next-same (dcfStep (take (c .job .size) room) (c .job .cursor))) same-read
+  sent-same room LoadedTransfer.Unloaded = same-read
 
 reply-same : (c : Connection) (seq : SequenceLayerHeader) (cmd : SdoCommand) (payload room : Bytes)
     → DecisionSame c (replyOf seq cmd payload c room)
 reply-same c seq cmd payload room =
-    reply-by seq cmd payload c room (DecisionSame c) (same c) (same c) (same c) (λ h. same c)
+    reply-by seq cmd payload c room (DecisionSame c) (same-read c) (same-read c) (same-read c) (λ h. same-read c)
     (λ h.
     record {
-      out-of-place = same c;
-      opened = λ e. same c;
-      refused = same c;
+      out-of-place = same-read c;
+      opened = λ e. same-read c;
+      refused = same-read c;
       sent = λ e. sent-same (cleared c (seq .«send_sequence_number»)) room (c .job .loaded);
-      uploads = λ e. same c;
-      bad = same c;
-      more = λ s from w. same c;
-      last = λ s from w. same c;
+      uploads = λ e. same-read c;
+      bad = same-read c;
+      more = λ s from w. same-read c;
+      last = λ s from w. same-read c;
       full = λ s. tt;
     })
 
-pub replied-same : (seq : SequenceLayerHeader) (cmd : SdoCommand) (payload : Bytes) (c : Connection) (room : Bytes) (d : Connection)
-    → replied (replyOf seq cmd payload c room) ≡ Taken.Connection d → Same c d
-replied-same seq cmd payload c room d e =
-    subst (TakenSame c) e (go (replyOf seq cmd payload c room) (reply-same c seq cmd payload room))
+pub replied-read : (seq : SequenceLayerHeader) (cmd : SdoCommand) (payload : Bytes) (c : Connection) (room : Bytes) (d : Connection)
+    → replied (replyOf seq cmd payload c room) ≡ Taken.Connection d → SameRead c d
+replied-read seq cmd payload c room d e =
+    subst (TakenRead c) e (go (replyOf seq cmd payload c room) (reply-same c seq cmd payload room))
   where
-    go : (x : Decision) → DecisionSame c x → TakenSame c (replied x)
+    go : (x : Decision) → DecisionSame c x → TakenRead c (replied x)
     go (Decision.Keeps d) h = h
     go (Decision.Stores d from) h = h
     go Decision.NoRoom h = tt
+
+pub replied-same : (seq : SequenceLayerHeader) (cmd : SdoCommand) (payload : Bytes) (c : Connection) (room : Bytes) (d : Connection)
+    → replied (replyOf seq cmd payload c room) ≡ Taken.Connection d → Same c d
+replied-same seq cmd payload c room d e = replied-read seq cmd payload c room d e .0

@@ -44,7 +44,7 @@ use Rattle.theorems.specs.Types.{
   Turn,
 }
 use Rattle.theorems.proofs.AllLists.{all-at, all-by, all-each}
-use Rattle.theorems.proofs.Cases.{Absent, At, FoundAs, Of, Shown, found-as, reply-by, turn-by}
+use Rattle.theorems.proofs.Cases.{Absent, At, FoundAs, Of, Shown, found-as, gives-none, reply-by, turn-by}
 use Rattle.theorems.proofs.FreeRooms.{free-nobodys}
 use Rattle.theorems.proofs.JobStarts.{started-room, started-same}
 use Rattle.theorems.proofs.NodeAndRoom.{Same, replied-same}
@@ -292,7 +292,7 @@ module _ (m : Manager) (store : Bytes) (sound : Sound m store) (node : ℕ) wher
       let s = sweep node (c .room) (withRoom store c after) d u in
       let own : roomAt (withRoom store c after) (c .room) ≡ after =
       put-own store long (c .room) after (replied-room seq cmd payload c (roomIn store c) ∙ room-length store long (c .room)) in
-      seen (sym (held k at)) refl (sym (s .1))
+      seen (sym (held k at)) (sym (gives-none node output d)) (sym (s .1))
       (sym
       (ap (λ (x : List Connection). holdingIn node x (withRoom store c after)) (live-table (running (set (live m) k d)) (m .«next_transaction_id»))
       ∙ s .0

@@ -10,6 +10,7 @@ use Rattle.con_rec.specs.Payload.{payloadOf}
 use Rattle.con_rec.specs.Record.{endOf, newConnection}
 use Rattle.con_reply.specs.Reply.{replied, replyOf, roomAfter}
 use Rattle.manager.specs.Calls.{Call, Job, jobRoom, replies, roomIn, startJob, starts, turns}
+use Rattle.manager.specs.Value.{valueOf}
 use Rattle.man_table.specs.Walk.{atTurn}
 use Rattle.theorems.specs.Quiet.{Holding, connection, nothing}
 use Rattle.theorems.specs.Story.{Gave, command, none}
@@ -31,6 +32,7 @@ use Rattle.theorems.proofs.Tracked.{heldAfter}
 abbrev pub IsRefused : Answer → Type 0
 IsRefused Answer.Nothing = ⊥
 IsRefused (Answer.Sent s) = ⊥
+IsRefused (Answer.Value part) = ⊥
 IsRefused (Answer.Refused r) = Unit {0}
 
 -- A start or a reply that leaves the node alone: for another node, or refused. Of a turn nothing is said.
@@ -80,5 +82,5 @@ pub data NodeView (node : ℕ) : Holding → Call → Answer → Gave → EndFou
   -- its reply is taken
   answers : {seq : SequenceLayerHeader} {cmd : SdoCommand} {payload : Bytes} {c d : Connection} {room : Bytes}
       → replied (replyOf seq cmd payload c room) ≡ Taken.Connection d
-      → NodeView node (connection c room) (replies node seq cmd payload) Answer.Nothing none (endOf d)
+      → NodeView node (connection c room) (replies node seq cmd payload) (valueOf d) none (endOf d)
       (heldAfter (endOf d) d (roomAfter (replyOf seq cmd payload c room) payload room)) (roomAfter (replyOf seq cmd payload c room) payload room)

@@ -15,6 +15,7 @@ use Rattle.con_reply.specs.Reply.{replied, replyOf, roomAfter}
 use Rattle.con_reply.proofs.StoresWithin.{replied-room}
 use Rattle.laws.proofs.Choices.{either}
 use Rattle.manager.specs.Calls.{Call, Job, called, numberOf, replies, roomIn, starts, turns, withRoom}
+use Rattle.manager.specs.Value.{valueOf}
 use Rattle.man_table.specs.Sweep.{endsIn, running, unlessEnd, withEnd}
 use Rattle.man_table.specs.Table.{blank, freeRoom, insertAt, insertIn, live, roomSize, storeSize, tableOf, heldAt}
 use Rattle.theorems.specs.Quiet.{ForAnother, Holding, QuietOthers, connection, holding, holdingIn}
@@ -24,7 +25,7 @@ use Rattle.theorems.specs.Story.{endFor, gaveTo, none}
 use Rattle.theorems.specs.Types.{Answer, EndFound, Taken, Now, Outcome, Reason, SdoClientConnection as Connection, SdoClientManager as Manager, SdoCommand, SequenceLayerHeader}
 use Rattle.theorems.proofs.AllLists.{all-at, all-by, all-set}
 use Rattle.manager.proofs.WalkCalls.{live-table}
-use Rattle.theorems.proofs.Cases.{Absent, At, Of, Shown, reply-by}
+use Rattle.theorems.proofs.Cases.{Absent, At, Of, Shown, gives-none, reply-by}
 use Rattle.theorems.proofs.NodeAndRoom.{Same, replied-same}
 use Rattle.theorems.proofs.FreeRooms.{free-nobodys, free-slotted}
 use Rattle.theorems.proofs.JobStarts.{started-room, started-same}
@@ -160,7 +161,7 @@ module _ (m : Manager) (store : Bytes) (sound : Sound m store) (node other : ℕ
 
     answers : (output : Bytes) (k : ℕ) (d : Connection) → length store ≡ storeSize → At node (live m) k
         → replied (replyOf seq cmd payload (heldAt m k) (roomIn store (heldAt m k))) ≡ Taken.Connection d
-        → Quiet (tableOf (running (set (live m) k d)) (m .«next_transaction_id»)) (after k) output Answer.Nothing (endsIn (set (live m) k d))
+        → Quiet (tableOf (running (set (live m) k d)) (m .«next_transaction_id»)) (after k) output (valueOf d) (endsIn (set (live m) k d))
     answers output k d long at e =
         let c : Connection = heldAt m k in
         let s : Same c d = replied-same seq cmd payload c (roomIn store c) d e in
@@ -175,7 +176,7 @@ module _ (m : Manager) (store : Bytes) (sound : Sound m store) (node other : ℕ
               ∙ look-set node other differ (after k) (live m) k d at own
               ∙ elsewhere long c (slot-at k at) _
               (replied-room seq cmd payload c (roomIn store c) ∙ room-length store long (c .room)) (held-others k at)),
-          refl,
+          gives-none other output d,
           ends-running other (set (live m) k d) run,
         )
 

@@ -12,6 +12,7 @@ use Rattle.con_rec.specs.Commands.{commandOf}
 use Rattle.con_rec.specs.Parts.{most}
 use Rattle.con_rec.specs.Payload.{payloadOf}
 use Rattle.manager.specs.Calls.{After, Call, called, outputSize, replies, roomIn, starts, turns}
+use Rattle.manager.proofs.ValueCases.{value-by}
 use Rattle.man_table.specs.Table.{blank, live}
 use Rattle.theorems.specs.Run.{Host, Lends, another, made, own, reached}
 use Rattle.theorems.specs.Sizes.{IsTurn, Sizes}
@@ -31,6 +32,7 @@ module _ (output : Bytes) (x : Call) where
       IsTurn x
       × (s .command .header .«segment_size» ≤ most)
       × (drop (s .command .header .«segment_size») out ≡ drop (s .command .header .«segment_size») output)
+  SizedFor out (Answer.Value part) = Unit {0}
   SizedFor out (Answer.Refused r) = Unit {0}
 
   abbrev SizedAs : Shown
@@ -56,7 +58,8 @@ call-sizes m store output sound (turns t n) =
     let z = subst (WalkSized store) e (walk-sized t n store (live m) (sound .each)) in
     (tt, z .1, fills output (roomIn store (getD l k blank)) o fits (z .0) (z .1)))
 call-sizes m store output sound (replies node seq cmd payload) =
-    reply-by m node seq cmd payload store output (SizedAs output (replies node seq cmd payload)) (λ r. tt) (λ unheld. tt) (λ k d long at e. tt)
+    reply-by m node seq cmd payload store output (SizedAs output (replies node seq cmd payload)) (λ r. tt) (λ unheld. tt)
+    (λ k d long at e. value-by (SizedFor output (replies node seq cmd payload) output) tt (λ part. tt) d)
 
 pub sizes : Sizes
 unfolding Sizes Reached

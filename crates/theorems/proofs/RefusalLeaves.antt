@@ -4,10 +4,12 @@ use mathlib.Core.List.{List, []}
 use Rattle.laws.specs.Pick.{pick}
 use Rattle.codec.specs.Bytes.{Bytes}
 use Rattle.manager.specs.Calls.{Call, called, reads, replies, starts, turns}
+use Rattle.manager.specs.Value.{valueOf}
 use Rattle.manager.proofs.LentRoom.{put-back}
+use Rattle.manager.proofs.ValueCases.{value-by}
 use Rattle.man_table.specs.Table.{heldAt}
 use Rattle.theorems.specs.Run.{reported}
-use Rattle.theorems.specs.Types.{Answer, End, Refusal, SdoClientManager as Manager}
+use Rattle.theorems.specs.Types.{Answer, End, Refusal, SdoClientConnection as Connection, SdoClientManager as Manager}
 use Rattle.theorems.specs.Untouched.{ReadsLeaveStore, Untouched, refusedBy}
 use Rattle.theorems.proofs.Cases.{Of, Shown, reply-by, turn-by}
 use Rattle.theorems.proofs.StartBy.{fresh, start-by}
@@ -16,7 +18,12 @@ use Rattle.theorems.proofs.StartBy.{fresh, start-by}
 abbrev Says : (Refusal → Manager) → Bytes → Bytes → Shown
 Says M store output k s out Answer.Nothing es = Unit {0}
 Says M store output k s out (Answer.Sent x) es = Unit {0}
+Says M store output k s out (Answer.Value part) es = Unit {0}
 Says M store output k s out (Answer.Refused r) es = (k ≡ M r) × (s ≡ store) × (out ≡ output) × (es ≡ [])
+
+says-value : (M : Refusal → Manager) (store output : Bytes) (k : Manager) (s out : Bytes) (es : List End) (d : Connection)
+    → Says M store output k s out (valueOf d) es
+says-value M store output k s out es = value-by (λ (a : Answer). Says M store output k s out a es) tt (λ part. tt)
 
 module _ (m : Manager) (store output : Bytes) where
   call-says : (x : Call) → Of (Says (refusedBy m x) store output) (called m store output x)
@@ -30,7 +37,7 @@ module _ (m : Manager) (store output : Bytes) where
       (λ k o l long fits e. tt)
   call-says (replies node seq cmd payload) =
       reply-by m node seq cmd payload store output (Says (λ (r : Refusal). m) store output) (λ r. (refl, refl, refl, refl))
-      (λ none. tt) (λ k d long at e. tt)
+      (λ none. tt) (λ k d long at e. says-value (λ (r : Refusal). m) store output _ _ output _ d)
 
 pub untouched : Untouched
 unfolding Untouched

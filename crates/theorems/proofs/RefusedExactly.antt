@@ -15,6 +15,7 @@ use Rattle.laws.specs.Pick.{pick}
 use Rattle.laws.proofs.Choices.{decided, either}
 use Rattle.manager.specs.Calls.{After, Call, Effect, Job, called, idleOf, numberOf, outputSize, replies, replyAt, replyBy, replyFrom, roomIn, seatIn, seatOf, startAt, startOf, startedAs, starts, takesNumber, turnOf, turns, walkedTo}
 use Rattle.manager.specs.Change.{changeDone, same, taking}
+use Rattle.manager.proofs.ValueCases.{value-by}
 use Rattle.man_table.specs.Table.{blank, findIn, freeRoom, live, storeSize, heldAt, targetAt, targetOf}
 use Rattle.man_table.specs.Walk.{Walking, refused, stopped, through, walkList}
 use Rattle.theorems.specs.Causes.{
@@ -51,7 +52,7 @@ use Rattle.theorems.specs.Types.{
 }
 use Rattle.theorems.proofs.AllLists.{all-at}
 use Rattle.theorems.proofs.Cases.{FoundAs, found-as}
-use Rattle.theorems.proofs.Checks.{Answers, answerOf, exactly, start-checks}
+use Rattle.theorems.proofs.Checks.{Answers, Unrefused, answerOf, exactly, start-checks}
 use Rattle.theorems.proofs.AllReached.{all-sound}
 use Rattle.theorems.proofs.ReplyChecks.{NoRoomIf, reply-if}
 use Rattle.theorems.proofs.Rooms.{room-length}
@@ -155,8 +156,8 @@ module _ (m : Manager) (store : Bytes) (sound : Sound m store) where
     decided-answers : (cause : Type 0) (k : ℕ) (c : Connection) (x : Decision) → NoRoomIf cause x
         → Replies (check Refusal.NoRoom cause ∷ []) (replyBy x k c payload store)
     unfolding NoRoomIf
-    decided-answers cause k c (Decision.Keeps d) h = inr (h, tt)
-    decided-answers cause k c (Decision.Stores d from) h = inr (h, tt)
+    decided-answers cause k c (Decision.Keeps d) h = inr (h, value-by Unrefused tt (λ part. tt) d)
+    decided-answers cause k c (Decision.Stores d from) h = inr (h, value-by Unrefused tt (λ part. tt) d)
     decided-answers cause k c Decision.NoRoom h = inl (h, refl)
 
     found-answers : length store ≡ storeSize → (f : Found) → FoundAs node (live m) f

@@ -48,7 +48,7 @@ none-yet {a} {s} {t} {offset} i =
 
 module _ (lent : Bytes) (earlier : List Event) (node : ℕ) (job : Sending) (now : Now)
     (e : start lent earlier node (jobOf job) now .done .answer ≡ Answer.Nothing) where
-  abbrev a : Aim
+  abbrev pub a : Aim
   a = aimOf job (started lent earlier node (jobOf job) now e .room)
 
   sends-begun : Begun a (started lent earlier node (jobOf job) now e .begun)
@@ -56,10 +56,10 @@ module _ (lent : Bytes) (earlier : List Event) (node : ℕ) (job : Sending) (now
       let s = started lent earlier node (jobOf job) now e in
       begun-job (s .before) (s .number) now job (s .room) (s .begun) (sym (start-of job (s .before) (s .number) now (s .room)) ∙ s .is)
 
-  abbrev Sent : Log → Host → Type 0
+  abbrev pub Sent : Log → Host → Type 0
   Sent l h = Brings (entriesOf job) (SendsRun a) (SendsEnd a) (sends-kept a) node l h
 
-  sends : (later : List Event)
+  pub sends : (later : List Event)
       → Sent (follow (entriesOf job) node untold (after lent earlier node (jobOf job) now) later) (run (after lent earlier node (jobOf job) now) later)
   sends later =
       brings lent earlier node (jobOf job) now e (entriesOf job) (SendsRun a) (SendsEnd a) (sends-kept a)

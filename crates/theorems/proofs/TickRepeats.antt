@@ -21,13 +21,15 @@ use Rattle.connection.specs.Ask.{askOf}
 use Rattle.connection.proofs.TickLaws.{AgainOrAbort, Ticked, tick-leaves}
 use Rattle.connection.specs.Tick.{tickOf}
 use Rattle.manager.specs.Calls.{After, Call, jobRoom, replies, starts, turns}
+use Rattle.manager.specs.Value.{valueOf}
+use Rattle.manager.proofs.ValueCases.{value-by}
 use Rattle.man_table.specs.Table.{newManager}
 use Rattle.man_table.specs.Walk.{atTurn}
 use Rattle.theorems.specs.Quiet.{Holding, connection, holding, nothing}
 use Rattle.theorems.specs.Run.{Event, Host, made, next, reached, run}
 use Rattle.theorems.specs.Sound.{Reached, Sound}
 use Rattle.theorems.specs.Story.{Gave, command, none}
-use Rattle.theorems.specs.TickGives.{TickGives, lastAfter, lastBy, orElse, unlessAnswered}
+use Rattle.theorems.specs.TickGives.{TickGives, afterReply, lastAfter, lastBy, orElse, unlessAnswered}
 use Rattle.theorems.specs.Types.{
   Answer,
   Decision,
@@ -103,7 +105,7 @@ module _ (last : Gave) (c : Connection) (room : Bytes) (h : Echoes last c room) 
 
   module _ (seq : SequenceLayerHeader) (cmd : SdoCommand) (payload : Bytes) where
     abbrev after : Gave
-    after = unlessAnswered Answer.Nothing seq last
+    after = unlessAnswered seq last
 
     abbrev EchoDecided : Decision → Type 0
     EchoDecided (Decision.Keeps d) = Echoes after d room
@@ -122,7 +124,7 @@ module _ (last : Gave) (c : Connection) (room : Bytes) (h : Echoes last c room) 
     ignored o e ne =
         let is : last ≡ command (sequenceOf o) (commandOf o) (payloadOf room o) = subst (λ (y : Outstanding). Echo last y room) e h in
         subst (λ (y : Outstanding). Echo after y room) (sym e)
-        (ap (unlessAnswered Answer.Nothing seq) is ∙ rw (ne-eqb (seq .«receive_sequence_number») (o .send) ne) refl)
+        (ap (unlessAnswered seq) is ∙ rw (ne-eqb (seq .«receive_sequence_number») (o .send) ne) refl)
 
     reply-echo : EchoDecided (replyOf seq cmd payload c room)
     reply-echo = go (reply-view seq cmd payload c room)
@@ -150,6 +152,7 @@ module _ (node : ℕ) where
   apart-last last (starts k job n) a (inl ne) = rw (ne-eqb k node ne) refl
   apart-last last (starts k job n) Answer.Nothing (inr p) = absurd p
   apart-last last (starts k job n) (Answer.Sent s) (inr p) = absurd p
+  apart-last last (starts k job n) (Answer.Value part) (inr p) = absurd p
   apart-last last (starts k job n) (Answer.Refused r) (inr p) =
       decided (λ (g : Gave). g ≡ last) (eqb k node) _ _ (λ e. refl) (λ e. refl)
   apart-last last (turns Turn.Asking n) a p = refl
@@ -157,8 +160,13 @@ module _ (node : ℕ) where
   apart-last last (replies k seq cmd payload) a (inl ne) = rw (ne-eqb k node ne) refl
   apart-last last (replies k seq cmd payload) Answer.Nothing (inr p) = absurd p
   apart-last last (replies k seq cmd payload) (Answer.Sent s) (inr p) = absurd p
+  apart-last last (replies k seq cmd payload) (Answer.Value part) (inr p) = absurd p
   apart-last last (replies k seq cmd payload) (Answer.Refused r) (inr p) =
       decided (λ (g : Gave). g ≡ last) (eqb k node) _ _ (λ e. refl) (λ e. refl)
+
+  -- whether it answers a value or nothing, a reply has answered the command
+  answers-it : (seq : SequenceLayerHeader) (last : Gave) (d : Connection) → unlessAnswered seq last ≡ afterReply (valueOf d) seq last
+  answers-it seq last = value-by (λ (a : Answer). unlessAnswered seq last ≡ afterReply a seq last) refl (λ part. refl)
 
   call-echo : (last : Gave) {h : Holding} {x : Call} {a : Answer} {g : Gave} {e : EndFound} {i : Holding} {b : Bytes}
       → NodeView node h x a g e i b → EchoHeld last h → EchoHeld (lastBy node last x a g) i
@@ -175,9 +183,9 @@ module _ (node : ℕ) where
       go Turn.Asking f = echo-after _ d room (subst (EchoStep last c room k Turn.Asking) f (ask-echo last c room k n))
       go Turn.Ticking f = echo-after last d room (subst (EchoStep last c room k Turn.Ticking) f (tick-echo last c room k n))
   call-echo last (answers {seq} {cmd} {payload} {c} {d} {room} e) k =
-      rw (eq-eqb node node refl)
-      (echo-after (unlessAnswered Answer.Nothing seq last) d _
-      (subst (EchoTaken (unlessAnswered Answer.Nothing seq last) (roomAfter (replyOf seq cmd payload c room) payload room)) e
+      rw (eq-eqb node node refl, ← answers-it seq last d)
+      (echo-after (unlessAnswered seq last) d _
+      (subst (EchoTaken (unlessAnswered seq last) (roomAfter (replyOf seq cmd payload c room) payload room)) e
       (taken-echo last c room k seq cmd payload (replyOf seq cmd payload c room) (reply-echo last c room k seq cmd payload))))
 
   run-echo : (xs : List Event) (last : Gave) (h : Host) → Sound (h .manager) (h .store) → EchoHeld last (holding (h .manager) (h .store) node)

@@ -4,7 +4,7 @@ use mathlib.Core.Path.{_≡_, refl}
 use mathlib.Core.List.{[], _∷_, map}
 use lib.ListN.{length, replicate}
 use Rattle.laws.specs.Pick.{among, pick}
-use Rattle.codec.specs.Bytes.{placed}
+use Rattle.codec.specs.Bytes.{partAt, placed}
 use Rattle.codec.specs.Dcf.{dcfStep, sentAs}
 use Rattle.codec.specs.Writing.{bufferAfter}
 use Rattle.connection.specs.Ask.{askOf, given}
@@ -17,7 +17,9 @@ use Rattle.manager.specs.Change.{changeDone, enteredAt, numberAfter}
 use Rattle.man_table.specs.Table.{freeRoom, storeSize, targetOf}
 use Rattle.theorems.specs.Edges.{first, p7, p8, second}
 use Rattle.theorems.specs.Types.{Answer, Outcome, Reason}
-use Rattle.theorems.specs.Worked.{disturbed, ran, rounds, silent, uploaded, used, worked}
+use Rattle.theorems.specs.Run.{next, reached, starting}
+use Rattle.theorems.specs.Values.{bytes, nothing}
+use Rattle.theorems.specs.Worked.{disturbed, early, handedBy, ran, rounds, silent, uploaded, used, worked}
 
 pub works :
     map worked (loads p7 ∷ loads p8 ∷ loads (0 ∷ 0 ∷ 0 ∷ 0 ∷ []) ∷ writes 0x2100 1 (1 ∷ 4 ∷ []) ∷ [])
@@ -54,3 +56,11 @@ pub works-on :
 unfolding pick among placed dcfStep bufferAfter askOf given deadlineOf replyOf roomFor startDcf startRead startWrite started
     tickOf replyFrom seatIn startOf targetOf turnOf freeRoom called changeDone enteredAt numberAfter
 works-on differs = refl
+
+-- the read in segments: its value is handed out after its last reply, and nothing before
+pub hands-out :
+    handedBy (next (reached (replicate 32768 0) []) (starting 5 (reads 0x2100 1) early)) uploaded
+    ≡ nothing ∷ nothing ∷ nothing ∷ nothing ∷ nothing ∷ nothing ∷ nothing ∷ bytes (1 ∷ 2 ∷ 3 ∷ 4 ∷ 5 ∷ []) ∷ []
+unfolding pick among partAt placed dcfStep bufferAfter askOf given deadlineOf replyOf roomFor startDcf startRead startWrite started
+    tickOf replyFrom seatIn startOf targetOf turnOf freeRoom called changeDone enteredAt numberAfter
+hands-out = refl

@@ -13,5 +13,5 @@ pub mod Story
 pub mod TickGives
 pub mod Types
 pub mod Untouched
-pub mod Uploads
+pub mod Values
 pub mod Worked

@@ -33,6 +33,7 @@ abbrev pub gaveTo : ℕ → Bytes → Answer → Gave
 gaveTo node output Answer.Nothing = none
 gaveTo node output (Answer.Sent s) =
     pick (eqb (s .node) node) (command (s .sequence) (s .command) (take (s .command .header .«segment_size») output)) none
+gaveTo node output (Answer.Value part) = none
 gaveTo node output (Answer.Refused r) = none
 
 -- ---- the story of a job
@@ -79,6 +80,7 @@ answered s = record { asks = s .asks; awaits = free; delivered = s .delivered; b
 abbrev pub unlessRefused : Answer → Story → Story → Story
 unlessRefused Answer.Nothing before after = after
 unlessRefused (Answer.Sent s) before after = after
+unlessRefused (Answer.Value part) before after = after
 unlessRefused (Answer.Refused r) before after = before
 
 -- ---- the log of a job: its story, how it stands, and the delivered figure of its end

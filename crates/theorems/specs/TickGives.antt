@@ -19,6 +19,7 @@ use Rattle.theorems.specs.Types.{Answer, Now, SentTo, SequenceLayerHeade
 abbrev pub unlessTaken : Answer → Gave → Gave
 unlessTaken Answer.Nothing last = none
 unlessTaken (Answer.Sent s) last = last
+unlessTaken (Answer.Value part) last = last
 unlessTaken (Answer.Refused r) last = last
 
 abbrev pub orElse : Gave → Gave → Gave
@@ -26,19 +27,23 @@ orElse none last = last
 orElse (command seq cmd payload) last = command seq cmd payload
 
 -- a reply whose receive number is the command's answers it; a refused reply has not happened
-abbrev pub unlessAnswered : Answer → SequenceLayerHeader → Gave → Gave
-unlessAnswered Answer.Nothing seq none = none
-unlessAnswered Answer.Nothing seq (command h cmd payload) =
+abbrev pub unlessAnswered : SequenceLayerHeader → Gave → Gave
+unlessAnswered seq none = none
+unlessAnswered seq (command h cmd payload) =
     pick (eqb (seq .«receive_sequence_number») (h .«send_sequence_number»)) none (command h cmd payload)
-unlessAnswered (Answer.Sent s) seq last = last
-unlessAnswered (Answer.Refused r) seq last = last
+
+abbrev pub afterReply : Answer → SequenceLayerHeader → Gave → Gave
+afterReply Answer.Nothing seq last = unlessAnswered seq last
+afterReply (Answer.Sent s) seq last = last
+afterReply (Answer.Value part) seq last = unlessAnswered seq last
+afterReply (Answer.Refused r) seq last = last
 
 -- the last command that ask gave a node since its job's start and that was not answered, after one call more
 abbrev pub lastBy : ℕ → Gave → Call → Answer → Gave → Gave
 lastBy node last (starts k job n) x g = pick (eqb k node) (unlessTaken x last) last
 lastBy node last (turns Turn.Asking n) x g = orElse g last
 lastBy node last (turns Turn.Ticking n) x g = last
-lastBy node last (replies k seq cmd payload) x g = pick (eqb k node) (unlessAnswered x seq last) last
+lastBy node last (replies k seq cmd payload) x g = pick (eqb k node) (afterReply x seq last) last
 
 abbrev pub lastAfter : ℕ → Gave → Host → List Event → Gave
 lastAfter node last h [] = last

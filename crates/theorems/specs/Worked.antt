@@ -16,6 +16,7 @@ use Rattle.man_table.specs.Table.{storeSize}
 use Rattle.theorems.specs.Figures.{entriesIn}
 use Rattle.theorems.specs.Run.{Event, Host, another, made, next, own, reached, starting}
 use Rattle.theorems.specs.Story.{Log, follow, untold}
+use Rattle.theorems.specs.Values.{Handed, handed}
 use Rattle.theorems.specs.Types.{
   Answer,
   CommandId,
@@ -150,6 +151,11 @@ uploaded =
     ∷ call (turns Turn.Asking early)
     ∷ call (replies 5 (good 3) (kind Segmentation.Complete) (4 ∷ 5 ∷ []))
     ∷ []
+
+-- what is handed out after each call
+abbrev pub handedBy : Host → List Event → List Handed
+handedBy h [] = []
+handedBy h (x ∷ xs) = handed (made h x .done .answer) (next h x .store) ∷ handedBy (next h x) xs
 
 -- a node that answers nothing any more after the first entry: two retries, and the abort
 abbrev pub silent : List Event

@@ -15,13 +15,15 @@ pub fn row(text: &[u8]) -> Result<Row, Bad> {
 }
 
 fn not_hex(text: &[u8]) -> Bad {
-    match replay_line::read(text) {
-        Ok(_) => Bad::Found(
-            "a frame",
-            "a line of the replay, which 'display replay' shows (make display DO=replay)".into(),
-        ),
-        Err(_) => Bad::Expected("bytes in hex, two digits a byte"),
-    }
+    let (whose, mode) = if replay_line::read(text).is_ok() {
+        ("the replay", "replay")
+    } else if replay_line::read_value(text).is_ok() {
+        ("values", "values")
+    } else {
+        return Bad::Expected("bytes in hex, two digits a byte");
+    };
+    let found = format!("a line of {whose}, which 'display {mode}' shows (make display DO={mode})");
+    Bad::Found("a frame", found)
 }
 
 fn way(text: &[u8]) -> Result<(Way, &[u8]), Bad> {

@@ -1,4 +1,4 @@
-//! The panel's display: SDO frames in hex, or the lines that the replay prints, as a picture in words.
+//! The panel's display: SDO frames in hex, or the lines that the replay or values print, as a picture in words.
 //!
 //! A frame is what the client sends or receives: the sequence header, then the command. The bytes are
 //! read by the proved codec; this crate only finds words for what it answers.
@@ -10,6 +10,7 @@ mod replay;
 mod row;
 #[cfg(test)]
 mod tests;
+mod values;
 mod words;
 mod wrapped;
 
@@ -25,6 +26,8 @@ pub enum Notation {
     Frames,
     /// Those of the replay.
     Replay,
+    /// Those of values.
+    Values,
 }
 
 impl Notation {
@@ -49,6 +52,7 @@ impl Notation {
         match self {
             Self::Frames => Ok(vec![frames::row(text)?]),
             Self::Replay => replay::rows(text),
+            Self::Values => Ok(vec![values::row(text)?]),
         }
     }
 }

@@ -9,6 +9,7 @@ use std::process::ExitCode;
 const USAGE: &str = "\
 usage: display [--color=WHEN] < FRAMES
        display replay [--color=WHEN] < LINES
+       display values [--color=WHEN] < VALUES
 
 Shows a run in words, a row for each command: to or from which node, the command and its kind, object
 (index and sub-index in hex), size, transaction, the sequence header's numbers and states, and what
@@ -29,6 +30,10 @@ where the bytes may be something else than one frame.
 LINES are those that the replay prints. A row begins with the record's number and its operation. What
 was sent, a refusal and each end have a row of their own; a gather that was taken has none.
 
+VALUES are the lines that values prints. A row has the record's number, the node, the object, how many
+bytes its read brought, and these: of 1, 2, 4 or 8 bytes as a number, low byte first, without and with a
+sign; as a text where every byte is a printable character of ASCII; else all of them in hex.
+
 States are none (NoConnection), init (Initialization), valid (ConnectionValid), on send also request
 (ConnectionValidAckRequest), and on receive error (ErrorResponse).
 
@@ -41,7 +46,7 @@ NO_COLOR is set.
 exit status: 0 all shown, 1 a line was not shown, 2 wrong arguments or a failing stream
 ";
 
-const ARGUMENTS: &str = "replay, --color=always, --color=never, --color=auto or --help";
+const ARGUMENTS: &str = "replay, values, --color=always, --color=never, --color=auto or --help";
 
 const NOT_SHOWN: u8 = 1;
 
@@ -70,6 +75,8 @@ fn request(arguments: impl Iterator<Item = OsString>) -> Result<Request, OsStrin
             return Ok(Request::Help);
         } else if argument == "replay" {
             notation = Notation::Replay;
+        } else if argument == "values" {
+            notation = Notation::Values;
         } else {
             when = colours(&argument).ok_or(argument)?;
         }

@@ -10,7 +10,7 @@ pub struct Row {
 pub enum Tone {
     /// What the client sends, or a frame with no direction.
     Plain,
-    /// What a node answers.
+    /// What a node answers, and the value that came of it.
     Answer,
     /// A record of which nothing came.
     Quiet,
@@ -36,4 +36,13 @@ pub fn head(word: &str, node: u8) -> String {
 /// The first cell, as wide, where no node is known.
 pub fn head_alone(word: &str) -> String {
     format!("{word:<8}")
+}
+
+/// Index and sub-index in hex.
+pub fn object(index: u16, sub_index: u8) -> String {
+    format!("{index:04X}:{sub_index:02X}")
+}
+
+pub fn size(bytes: usize) -> String {
+    format!("{bytes:>4} byte{}", if bytes == 1 { "" } else { "s" })
 }

@@ -1,4 +1,4 @@
-//! The two notations, line by line: document 01's run in each, what is passed over, and what is told.
+//! The three notations, line by line: document 01's run, values, what is passed over, and what is told.
 
 use super::{run, Notation};
 
@@ -15,6 +15,10 @@ fn frames(input: &[u8], expected: &str, all_shown: bool) {
 
 fn replay(input: &[u8], expected: &str, all_shown: bool) {
     shows(Notation::Replay, input, expected, all_shown);
+}
+
+fn values(input: &[u8], expected: &str, all_shown: bool) {
+    shows(Notation::Values, input, expected, all_shown);
 }
 
 #[test]
@@ -184,6 +188,21 @@ line 2: expected bytes in hex, two digits a byte
 }
 
 #[test]
+fn a_line_of_values_is_no_frame_and_none_of_the_replay() {
+    frames(
+        b"5 3 2100:01 0104\n5 3 2100:01 010\n",
+        "\
+line 1: expected a frame; found a line of values, which 'display values' shows (make display DO=values)
+line 2: expected bytes in hex, two digits a byte
+",
+        false,
+    );
+    let told =
+        "line 1: expected six fields: record number, operation, refusal, node, bytes, ends\n";
+    replay(b"5 3 2100:01 0104\n", told, false);
+}
+
+#[test]
 fn marks_in_front_of_a_text() {
     let row = "    2  tick\n";
     replay(b"\xEF\xBB\xBF2 5 0 - - -\r\n", row, true);
@@ -196,4 +215,34 @@ fn marks_in_front_of_a_text() {
 fn no_input() {
     frames(b"", "", true);
     replay(b"", "", true);
+    values(b"", "", true);
+}
+
+#[test]
+fn lines_of_values() {
+    values(
+        b"# two cells\n5 3 2100:01 0104\r\n\n  14 255 1008:00 44657074682063656C6C\n65535 0 FFFF:FF -",
+        "    5  from   3  2100:01     2 bytes  unsigned 1025, signed 1025
+   14  from 255  1008:00    10 bytes  text \"Depth cell\"
+65535  from   0  FFFF:FF     0 bytes  no data
+",
+        true,
+    );
+}
+
+#[test]
+fn bad_lines_of_values() {
+    values(
+        b"5 3 2100:01\n5 256 2100:01 0104\n5 3 2100 0104\n5 3 2100:01 010\n1 1 0 - - -\n\xFF\n6 3 2100:01 -\n",
+        "\
+line 1: expected four fields: record number, node, object, data
+line 2: expected a node from 0 to 255 second
+line 3: expected an object such as 2100:01 third
+line 4: expected data in hex, two digits a byte, or -, last
+line 5: expected four fields: record number, node, object, data
+line 6: expected four fields: record number, node, object, data
+    6  from   3  2100:01     0 bytes  no data
+",
+        false,
+    );
 }

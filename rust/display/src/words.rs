@@ -5,7 +5,7 @@ mod content;
 #[cfg(test)]
 mod tests;
 
-use crate::row::{head, head_alone, Row, Tone};
+use crate::row::{head, head_alone, size, Row, Tone};
 use crate::wrapped;
 use content::Content;
 use ostelumiv::{CommandId, Refusal, SdoCommand, SendConnState, SequenceLayerHeader};
@@ -35,7 +35,7 @@ pub fn frame(way: Way, frame: &[u8]) -> Result<Row, Refusal> {
         command.header.command_id.name(),
         kind(&sequence, &command),
         content.object,
-        size(command.header.segment_size),
+        size(command.header.segment_size.into()),
         command.header.transaction_id,
         sequence_words(&sequence),
         carried(&command, content.words, doubts),
@@ -69,10 +69,6 @@ fn kind(sequence: &SequenceLayerHeader, command: &SdoCommand) -> &'static str {
     } else {
         command.header.segmentation.name()
     }
-}
-
-fn size(bytes: u16) -> String {
-    format!("{bytes:>4} byte{}", if bytes == 1 { "" } else { "s" })
 }
 
 /// The states have the words that they have in a trace.

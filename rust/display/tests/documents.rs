@@ -38,6 +38,14 @@ fn the_guide_has_the_picture_of_document_01s_run() {
     assert_eq!(shown(Notation::Replay, &lines), picture("document01"));
 }
 
+/// What values prints for its own trace, and the picture of it.
+#[test]
+fn the_guide_has_the_values_of_a_run() {
+    let lines = text(&root().join("traces/values.values"));
+    quotes("docs/TRACES.md", &lines);
+    quotes("docs/TRACES.md", &shown(Notation::Values, &lines));
+}
+
 /// The hex that a document echoes, and the row below it.
 #[test]
 fn the_frames_in_the_documents() {

@@ -51,6 +51,10 @@ fn a_bad_line_is_told_the_rest_is_shown_and_the_status_is_1() {
     let told =
         "line 1: expected six fields: record number, operation, refusal, node, bytes, ends\n";
     assert_eq!(shown(&["replay"], b"FC01\n", 1), told);
+    let told = "line 1: expected four fields: record number, node, object, data\n    \
+                5  from   3  2100:01     2 bytes  unsigned 1025, signed 1025\n";
+    let lines = b"5 3 2100:01\n5 3 2100:01 0104\n";
+    assert_eq!(shown(&["values"], lines, 1), told);
 }
 
 #[test]
@@ -63,6 +67,7 @@ fn the_programs_arguments() {
         (&["--color"], "--color"),
         (&["--color=sometimes"], "--color=sometimes"),
         (&["replay", "file"], "file"),
+        (&["value"], "value"),
         (&["-h"], "-h"),
         (&[""], ""),
     ] {
@@ -70,9 +75,10 @@ fn the_programs_arguments() {
         assert_eq!(output.status.code(), Some(2), "{arguments:?}");
         assert!(output.stdout.is_empty());
         let told = format!(
-            "display: expected replay, --color=always, --color=never, --color=auto or --help; \
-             found '{wrong}'\nusage: display [--color=WHEN] < FRAMES\n       \
-             display replay [--color=WHEN] < LINES\ndisplay --help tells more\n"
+            "display: expected replay, values, --color=always, --color=never, --color=auto or \
+             --help; found '{wrong}'\nusage: display [--color=WHEN] < FRAMES\n       \
+             display replay [--color=WHEN] < LINES\n       \
+             display values [--color=WHEN] < VALUES\ndisplay --help tells more\n"
         );
         assert_eq!(String::from_utf8(output.stderr).unwrap(), told);
     }

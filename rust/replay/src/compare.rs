@@ -1,35 +1,63 @@
 //! Our replay programs against the oracle: drawn traces go to both, and every line is compared.
 
+use crate::counts::Counts;
 use crate::cover;
+use crate::difference::{difference, Numbering};
 use crate::generate::Run;
-use crate::line;
 use crate::programs::Program;
-use record::RECORD_BYTES;
+use crate::rules::Rule;
+use std::fmt::Write as _;
 use std::io::{self, Write};
 
 /// After how many traces that differ the comparison is enough.
 const MOST_DIFFERENT: usize = 5;
-/// How much of a line is shown.
-const SHOWN: usize = 160;
+
+/// The reads that a comparison of values is for, by the rules that they reach.
+const READS: [(Rule, &str); 5] = [
+    (Rule::EndRead, "in all"),
+    (Rule::UploadExpedited, "Expedited"),
+    (Rule::UploadComplete, "segmented"),
+    (Rule::UploadNothing, "empty"),
+    (Rule::Upload4096, "of 4,096 bytes"),
+];
+
+/// What a program prints of a trace.
+#[derive(Debug, Clone, Copy, PartialEq, Eq)]
+enum Prints {
+    /// A line and a state line for each record. The parameters stand ahead of the trace.
+    States,
+    /// A line for each record.
+    Lines,
+    /// A line for each read that ended Complete.
+    Values,
+}
 
 /// A program, or why it is not there, and what was compared with it.
 struct Side {
     program: Result<Program, String>,
-    /// Whether a state line follows each line, and the parameters stand ahead of the trace.
-    state: bool,
-    lines: usize,
+    prints: Prints,
+    /// The lines that are the same, and those that are not.
+    lines: [usize; 2],
+    /// The traces that differ.
     different: usize,
+    /// What the traces reach that were compared.
+    counts: Counts,
 }
 
 impl Side {
-    fn new(name: &'static str, state: bool) -> Self {
-        let program = Program::find(name);
+    fn new(name: &'static str, prints: Prints) -> Self {
         Self {
-            program,
-            state,
-            lines: 0,
+            program: Program::find(name),
+            prints,
+            lines: [0; 2],
             different: 0,
+            counts: Counts::default(),
         }
+    }
+
+    /// Whether the program can be run on the trace: only replay_states takes parameters.
+    fn takes(&self, run: &Run) -> bool {
+        self.prints == Prints::States || run.is_plain()
     }
 
     /// Compares the program's lines with the oracle's, and writes the first that differ.
@@ -37,20 +65,23 @@ impl Side {
         let Ok(program) = &self.program else {
             return Ok(());
         };
-        if self.different >= MOST_DIFFERENT {
+        if self.different >= MOST_DIFFERENT || !self.takes(run) {
             return Ok(());
         }
-        let found = match self.state {
-            true => difference(&run.lines, program.output(&run.with_parameters()), 2),
-            false => difference(&run.plain_lines(), program.output(&run.records), 1),
+        let (rust, input, numbering) = match self.prints {
+            Prints::States => (&run.lines, run.with_parameters(), Numbering::Place(2)),
+            Prints::Lines => (&run.plain_lines(), run.records.clone(), Numbering::Place(1)),
+            Prints::Values => (&run.values, run.records.clone(), Numbering::Own),
         };
-        match found {
-            Ok(lines) => {
-                self.lines += lines;
+        self.counts.add(&run.counts);
+        match difference(rust, program.output(&input), numbering) {
+            Ok(same) => {
+                self.lines[0] += same;
                 Ok(())
             }
             Err(difference) => {
                 self.different += 1;
+                self.lines[1] += difference.lines();
                 let text = difference.text(program.name, trace, &run.records);
                 out.write_all(text.as_bytes())
             }
@@ -59,44 +90,59 @@ impl Side {
 
     /// Whether something was compared, and all of it was the same.
     fn is_well(&self) -> bool {
-        self.lines > 0 && self.different == 0
+        self.lines[0] > 0 && self.different == 0
     }
 
     /// What was compared.
     fn report(&self) -> String {
-        let Self {
-            lines, different, ..
-        } = self;
-        match &self.program {
-            Err(missing) => format!("NOT COMPARED: {missing}\n"),
-            Ok(Program { name, .. }) if lines + different == 0 => {
-                format!("NOT COMPARED: no trace has a line for {name}\n")
-            }
-            Ok(Program { name, .. }) => {
-                let enough = if *different == MOST_DIFFERENT {
-                    ", and no more were compared"
-                } else {
-                    ""
-                };
-                format!(
-                    "{name}: {lines} lines are the same; traces that differ: {different}{enough}\n"
-                )
-            }
+        let ([same, differ], different) = (self.lines, self.different);
+        let name = match &self.program {
+            Err(missing) => return format!("NOT COMPARED: {missing}\n"),
+            Ok(program) => program.name,
+        };
+        if same + different == 0 {
+            return format!("NOT COMPARED: no trace has a line for {name}\n");
         }
+        let enough = if different == MOST_DIFFERENT {
+            ", and no more were compared"
+        } else {
+            ""
+        };
+        let reads = match self.prints {
+            Prints::Values => reads(&self.counts),
+            Prints::States | Prints::Lines => String::new(),
+        };
+        format!(
+            "{name}: {same} lines are the same, {differ} differ; traces that differ: {different}{enough}\n{reads}"
+        )
     }
 }
 
-/// Compares over so many records, and writes the table of what they reached. It answers whether both
+/// How many reads of each kind were compared, and the kinds of which there was none.
+fn reads(counts: &Counts) -> String {
+    let mut text = "reads that ended Complete in the traces compared\n".to_string();
+    let mut never = String::new();
+    for (rule, kind) in READS {
+        let count = counts.of(rule);
+        writeln!(text, "{count:>9}  {kind}").expect("a string takes any text");
+        if count == 0 {
+            never.push_str(&format!("  never: {kind}\n"));
+        }
+    }
+    text + &never
+}
+
+/// Compares over so many records, and writes the table of what they reached. It answers whether all
 /// programs were compared and nothing differed.
 pub fn run(records: usize, first_seed: u64, out: &mut impl Write) -> io::Result<bool> {
-    let mut sides = [Side::new("replay_states", true), Side::new("replay", false)];
+    let mut sides = [
+        Side::new("replay_states", Prints::States),
+        Side::new("replay", Prints::Lines),
+        Side::new("values", Prints::Values),
+    ];
     let covered = cover::each_trace(records, first_seed, |trace, run| {
-        let absent = run.parameters.timeout.is_none() && run.parameters.retries.is_none();
         for side in &mut sides {
-            // The replay takes no parameters.
-            if side.state || absent {
-                side.compare(trace, run, out)?;
-            }
+            side.compare(trace, run, out)?;
         }
         Ok(())
     })?;
@@ -107,122 +153,33 @@ pub fn run(records: usize, first_seed: u64, out: &mut impl Write) -> io::Result<
     Ok(sides.iter().all(Side::is_well))
 }
 
-/// Where a program and the oracle part.
-#[derive(Debug, PartialEq)]
-enum Difference {
-    /// The program did not end well.
-    Failed(String),
-    /// The record's number, and from where on its lines differ.
-    Lines {
-        record: usize,
-        ours: String,
-        rust: String,
-    },
-}
-
-/// How many lines are the same, or the first that are not. A record has so many of them.
-fn difference(
-    rust: &[u8],
-    ours: Result<Vec<u8>, String>,
-    lines_a_record: usize,
-) -> Result<usize, Difference> {
-    let ours = ours.map_err(Difference::Failed)?;
-    let count = |lines: &[u8]| lines.split_inclusive(|byte| *byte == b'\n').count();
-    if ours == rust {
-        return Ok(count(rust));
-    }
-    let mut our_lines = ours.split_inclusive(|byte| *byte == b'\n');
-    let mut rust_lines = rust.split_inclusive(|byte| *byte == b'\n');
-    let mut same = 0;
-    loop {
-        let (ours, rust) = (our_lines.next(), rust_lines.next());
-        if ours == rust {
-            same += 1;
-            continue;
-        }
-        let (ours, rust) = (ours.unwrap_or_default(), rust.unwrap_or_default());
-        let equal = ours
-            .iter()
-            .zip(rust)
-            .take_while(|(ours, rust)| ours == rust);
-        let place = equal.count();
-        return Err(Difference::Lines {
-            record: same / lines_a_record + 1,
-            ours: shown(ours, place),
-            rust: shown(rust, place),
-        });
-    }
-}
-
-/// A line, or the piece of it around a place.
-fn shown(line: &[u8], place: usize) -> String {
-    if line.is_empty() {
-        return "no line".into();
-    }
-    let begin = if place < SHOWN { 0 } else { place - SHOWN / 2 };
-    let end = line.len().min(begin + SHOWN);
-    let piece = String::from_utf8_lossy(&line[begin..end]);
-    let before = if begin > 0 { "..." } else { "" };
-    let after = if end < line.len() { "..." } else { "" };
-    format!("{before}{}{after}", piece.trim_end())
-}
-
-impl Difference {
-    fn text(&self, program: &str, trace: &str, records: &[u8]) -> String {
-        match self {
-            Self::Failed(error) => format!("DIFFERENCE in {program}, {trace}: {error}\n"),
-            Self::Lines { record, ours, rust } => {
-                let begin = (record - 1) * RECORD_BYTES;
-                let end = records.len().min(begin + RECORD_BYTES);
-                let mut hex = Vec::new();
-                line::put_hex(&mut hex, records.get(begin..end).unwrap_or_default());
-                let bytes = String::from_utf8_lossy(&hex);
-                format!(
-                    "DIFFERENCE in {program}, {trace}, record {record}\n  \
-                     bytes {bytes}\n  ours  {ours}\n  Rust  {rust}\n"
-                )
-            }
-        }
-    }
-}
-
 #[cfg(test)]
 mod tests {
-    use super::{difference, Difference};
-
-    const RUST: &[u8] = b"1 7 0 - - -\n= - - -\n2 6 0 - - -\n= - - -\n";
-
-    #[test]
-    fn the_same() {
-        assert_eq!(difference(RUST, Ok(RUST.to_vec()), 2), Ok(4));
-        assert_eq!(difference(b"", Ok(Vec::new()), 1), Ok(0));
-    }
+    use super::reads;
+    use crate::counts::Counts;
+    use crate::rules::Rule;
 
     #[test]
-    fn the_first_line_that_differs() {
-        for (ours, record) in [
-            (&b"1 7 0 - - -\n= - - -\n2 6 8 - - -\n= - - -\n"[..], 2),
-            (b"1 7 0 - - -\n= 5 - -\n2 6 0 - - -\n= - - -\n", 1),
-            (b"1 7 0 - - -\n= - - -\n2 6 0 - - -\n", 2),
-            (b"1 7 0 - - -\n= - - -\n2 6 0 - - -\n= - - -\n3\n", 3),
-            (b"", 1),
+    fn a_kind_of_read_that_was_never_reached_is_told() {
+        let mut counts = Counts::default();
+        for rule in [
+            Rule::EndRead,
+            Rule::EndRead,
+            Rule::UploadExpedited,
+            Rule::UploadComplete,
+            Rule::UploadNothing,
         ] {
-            match difference(RUST, Ok(ours.to_vec()), 2) {
-                Err(Difference::Lines { record: found, .. }) => assert_eq!(found, record),
-                other => panic!("{other:?}"),
-            }
+            counts.reach(rule);
         }
-    }
-
-    #[test]
-    fn a_difference_far_inside_a_line_is_shown() {
-        let rust = [&[b'A'; 1_000][..], b"C\n"].concat();
-        let ours = [&[b'A'; 1_000][..], b"B\n"].concat();
-        let Err(found) = difference(&rust, Ok(ours), 1) else {
-            panic!("they differ");
-        };
-        let text = found.text("replay", "seed 9", &[0xAB; 40]);
-        assert!(text.starts_with("DIFFERENCE in replay, seed 9, record 1\n  bytes ABAB"));
-        assert!(text.contains("AAB\n") && text.contains("AAC\n"), "{text}");
+        let expected = "\
+reads that ended Complete in the traces compared
+        2  in all
+        1  Expedited
+        1  segmented
+        1  empty
+        0  of 4,096 bytes
+  never: of 4,096 bytes
+";
+        assert_eq!(reads(&counts), expected);
     }
 }

@@ -18,6 +18,10 @@ impl Counts {
         self.0[rule as usize] += 1;
     }
 
+    pub fn of(&self, rule: Rule) -> u64 {
+        self.0[rule as usize]
+    }
+
     pub fn add(&mut self, other: &Self) {
         for (sum, more) in self.0.iter_mut().zip(other.0) {
             *sum += more;

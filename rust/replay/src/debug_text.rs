@@ -1,7 +1,6 @@
 //! Reads the Debug text of the repository's manager. Its table is private, and this text is all that
 //! it shows of it. A text of another form is an error that says where it stopped.
 
-use crate::sum::Sum;
 use crate::table::{DcfLeft, Held, State, Table};
 
 type Parsed<T> = Result<T, String>;
@@ -111,16 +110,16 @@ impl<'a> Text<'a> {
     }
 
     /// A list of bytes: `[1, 2, 3]`.
-    fn bytes(&mut self) -> Parsed<Sum> {
-        let mut sum = Sum::EMPTY;
+    fn bytes(&mut self) -> Parsed<Vec<u8>> {
+        let mut bytes = Vec::new();
         self.eat("[")?;
         while !self.has("]") {
-            if sum.length > 0 {
+            if !bytes.is_empty() {
                 self.eat(", ")?;
             }
-            sum.add(self.number()?);
+            bytes.push(self.number()?);
         }
-        Ok(sum)
+        Ok(bytes)
     }
 
     fn option<T>(&mut self, inner: impl FnOnce(&mut Self) -> Parsed<T>) -> Parsed<Option<T>> {
@@ -231,7 +230,7 @@ impl<'a> Text<'a> {
 
     fn dcf(&mut self) -> Parsed<DcfLeft> {
         let left = DcfLeft {
-            length: self.after("ConciseDcf { data: ", Self::bytes)?.length,
+            length: self.after("ConciseDcf { data: ", Self::bytes)?.len(),
             offset: self.after(", offset: ", Self::number)?,
             entries: self.after(", entries_remaining: ", Self::number)?,
         };

@@ -1,6 +1,6 @@
 //! Traces and the oracle's lines, as the files that our programs are run on: a sample that stands in
-//! crates/ and runs without Rust (a pair for replay_fixed, with both parameters absent, and one each for
-//! replay_states and replay_states_retries), and one long trace that is drawn anew for each gate.
+//! crates/ and runs without Rust (a pair each for replay_fixed and values, with both parameters absent, and
+//! for replay_states and replay_states_retries), and one long trace that is drawn anew for each gate.
 
 use crate::counts::Counts;
 use crate::generate;
@@ -15,8 +15,9 @@ pub fn files() -> Result<(Files, Counts), String> {
     let replay = generate::fixed_replay()?;
     let no_retries = generate::fixed_no_retries()?;
     let retries = generate::fixed_retries()?;
+    let values = generate::fixed_values()?;
     let mut counts = Counts::default();
-    for run in [&replay, &no_retries, &retries] {
+    for run in [&replay, &no_retries, &retries, &values] {
         counts.add(&run.counts);
     }
     let files = vec![
@@ -26,6 +27,8 @@ pub fn files() -> Result<(Files, Counts), String> {
         ("replay_states/stdout", no_retries.lines),
         ("replay_states_retries/stdin", retries.with_parameters()),
         ("replay_states_retries/stdout", retries.lines),
+        ("values/stdin", values.records),
+        ("values/stdout", values.values),
     ];
     Ok((files, counts))
 }

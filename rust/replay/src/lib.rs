@@ -12,6 +12,7 @@ mod counts;
 pub mod cover;
 mod dcf;
 mod debug_text;
+mod difference;
 pub mod fixed;
 mod gather;
 pub mod generate;

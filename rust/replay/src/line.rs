@@ -1,10 +1,10 @@
-//! The lines that are printed: document 01's line of a record, and the state line of replay_states. Numbers
-//! and hex are put without `format!`, since tests/bench counts the instructions of a run.
+//! The lines that are printed: document 01's line of a record, the state line of replay_states, and the line
+//! of values. Numbers and hex are put without `format!`, since tests/bench counts the instructions of a run.
 
 use crate::client::{Outcome, Sent};
 use crate::sum::Sum;
 use crate::table::{Held, Table};
-use replay_line::End;
+use replay_line::{End, Value};
 
 /// Sequence header, command header with data size, and the longest part.
 const MOST_SENT: usize = 4 + 12 + 1_452;
@@ -90,15 +90,32 @@ fn put_ends(out: &mut Vec<u8>, ends: &[End]) {
 
 /// `= NEXT HELD READ`: next action time, held connections, and what this record's reply brought a
 /// read that it ended Complete.
-pub fn put_state(out: &mut Vec<u8>, next: Option<u64>, table: &Table, read: Option<Sum>) {
+pub fn put_state(out: &mut Vec<u8>, next: Option<u64>, table: &Table, read: Option<&Value>) {
     out.extend_from_slice(b"= ");
     put_option(out, next);
     out.push(b' ');
     put_joined(out, &table.held, put_held);
     out.push(b' ');
     match read {
-        Some(read) => put_sum(out, read),
+        Some(value) => put_sum(out, &value.data),
         None => out.push(b'-'),
+    }
+    out.push(b'\n');
+}
+
+/// `RECORD NODE INDEX:SUB DATA`: what a read brought that this record ended Complete.
+pub fn put_value(out: &mut Vec<u8>, record: u32, value: &Value) {
+    put_number(out, record.into());
+    out.push(b' ');
+    put_number(out, value.node.into());
+    out.push(b' ');
+    put_hex(out, &value.index.to_be_bytes());
+    out.push(b':');
+    put_hex(out, &[value.sub_index]);
+    out.push(b' ');
+    match &value.data[..] {
+        [] => out.push(b'-'),
+        data => put_hex(out, data),
     }
     out.push(b'\n');
 }
@@ -125,7 +142,8 @@ fn put_held(out: &mut Vec<u8>, held: &Held) {
     put_sum(out, held.uploaded());
 }
 
-fn put_sum(out: &mut Vec<u8>, sum: Sum) {
+fn put_sum(out: &mut Vec<u8>, bytes: &[u8]) {
+    let sum = Sum::of(bytes);
     put_number(out, sum.length as u64);
     out.push(b':');
     put_number(out, sum.fnv.into());
@@ -153,11 +171,11 @@ fn put_joined<T>(out: &mut Vec<u8>, list: &[T], put: impl Fn(&mut Vec<u8>, &T)) 
 
 #[cfg(test)]
 mod tests {
-    use super::{put_hex, put_line, put_number, put_state};
+    use super::{put_hex, put_line, put_number, put_state, put_value};
     use crate::client::Answer;
     use crate::refusal::Refusal;
     use crate::table::Table;
-    use replay_line::{End, Reason};
+    use replay_line::{End, Reason, Value};
 
     fn text(put: impl FnOnce(&mut Vec<u8>)) -> String {
         let mut out = Vec::new();
@@ -209,6 +227,23 @@ mod tests {
         assert_eq!(
             text(|out| put_state(out, None, &Table::default(), None)),
             "= - - -\n"
+        );
+    }
+
+    /// The request's own example, and what stands for no data.
+    #[test]
+    fn values() {
+        let mut value = Value {
+            node: 3,
+            index: 0x2100,
+            sub_index: 1,
+            data: vec![0x01, 0x04],
+        };
+        assert_eq!(text(|out| put_value(out, 5, &value)), "5 3 2100:01 0104\n");
+        value.data.clear();
+        assert_eq!(
+            text(|out| put_value(out, 65_535, &value)),
+            "65535 3 2100:01 -\n"
         );
     }
 }

@@ -9,11 +9,14 @@ usage: replay_oracle MODE
   plain                   a trace on standard input, document 01's lines on standard output
   state                   the same with ten bytes of parameters ahead of the trace, and a state line
                           after each line
+  values                  a trace on standard input, a line for each read that ends Complete: record,
+                          node, object, data
   cover RECORDS [SEED]    the generator and the oracle alone: how often each rule is reached
-  compare RECORDS [SEED]  our replay_states and replay on drawn traces of so many records, from a
-                          first seed on, line by line against the oracle
-  trace SEED | longest    the drawn trace of a seed, or the one of 65,535 records and more, with
-                          the parameters ahead
+  compare RECORDS [SEED]  our replay_states, replay and values on drawn traces of so many records, from
+                          a first seed on, line by line against the oracle
+  trace SEED | longest | values
+                          the drawn trace of a seed, or one of 65,535 records and more: of any kind, or
+                          about values; with the parameters ahead
   fixed CRATES            writes the sample of traces and lines that runs without Rust
   drawn CRATES            writes the long trace and its lines that the gate runs
 exit status: 0 all is well, 1 it is not";
@@ -60,9 +63,11 @@ fn run(arguments: &[&str]) -> io::Result<bool> {
         }
         ["plain"] => stream::plain(io::stdin().lock(), &mut output)?,
         ["state"] => stream::with_state(io::stdin().lock(), &mut output)?,
+        ["values"] => stream::values(io::stdin().lock(), &mut output)?,
         ["trace", which] => {
             let run = match *which {
                 "longest" => generate::longest(),
+                "values" => generate::longest_about_values(),
                 seed => generate::drawn(number(seed)?),
             };
             output.write_all(&run.map_err(io::Error::other)?.with_parameters())?;

@@ -6,15 +6,21 @@
 
 use crate::client::{with_code, Answer, Call, Job};
 use crate::debug_text;
-use crate::sum::Sum;
 use crate::table::{Held, Table};
 use oracle::{Connection, NodeId, ObjectDictionary};
-use replay_line::Reason;
+use replay_line::{Reason, Value};
 use std::collections::BTreeMap;
 
 pub struct Mirrors {
     parameters: ObjectDictionary,
-    reads: BTreeMap<u8, Connection>,
+    /// By node.
+    reads: BTreeMap<u8, Mirror>,
+}
+
+struct Mirror {
+    connection: Connection,
+    index: u16,
+    sub_index: u8,
 }
 
 impl Mirrors {
@@ -23,14 +29,14 @@ impl Mirrors {
         Self { parameters, reads }
     }
 
-    /// Follows a call that was not refused. `table` is the manager's after it. It answers what the
-    /// call brought a read that it ended Complete.
+    /// Follows a call that was not refused. `table` is the manager's after it. It answers what a read
+    /// brought that the call ended Complete; only a reply does so, and it ends one job at most.
     pub fn follow(
         &mut self,
         call: &Call,
         answer: &Answer,
         table: &Table,
-    ) -> Result<Option<Sum>, String> {
+    ) -> Result<Option<Value>, String> {
         match call {
             Call::Start { node, time, job } => self.start(*node, *time, job, table.transaction),
             Call::Reply {
@@ -39,7 +45,8 @@ impl Mirrors {
                 command,
             } => {
                 if let Some(mirror) = self.reads.get_mut(node) {
-                    mirror.handle_response(sequence, &with_code(command.clone()));
+                    let command = with_code(command.clone());
+                    mirror.connection.handle_response(sequence, &command);
                 }
             }
             Call::Tick { time } => self.walk(answer, |mirror, parameters| {
@@ -52,8 +59,9 @@ impl Mirrors {
         let mut read = None;
         for end in &answer.ends {
             if let Some(mirror) = self.reads.remove(&end.node) {
-                let brought = shown(&mirror)?.buffer;
-                read = (end.reason == Reason::Complete).then_some(brought);
+                if end.reason == Reason::Complete {
+                    read = Some(mirror.value()?);
+                }
             }
         }
         self.same(table)?;
@@ -62,10 +70,16 @@ impl Mirrors {
 
     fn start(&mut self, node: u8, time: u64, job: &Job, transaction: u8) {
         if let Job::Read { index, sub_index } = *job {
-            let mut mirror = Connection::new(NodeId(node));
+            let mut connection = Connection::new(NodeId(node));
             let parameters = &self.parameters;
-            let started = mirror.start_read_job(index, sub_index, transaction, time, parameters);
+            let started =
+                connection.start_read_job(index, sub_index, transaction, time, parameters);
             started.expect("a new connection takes a job");
+            let mirror = Mirror {
+                connection,
+                index,
+                sub_index,
+            };
             self.reads.insert(node, mirror);
         }
     }
@@ -74,13 +88,13 @@ impl Mirrors {
     fn walk(&mut self, answer: &Answer, call: impl Fn(&mut Connection, &ObjectDictionary)) {
         let giver = answer.sent.as_ref().map_or(u8::MAX, |(node, ..)| node.0);
         for (_, mirror) in self.reads.range_mut(..=giver) {
-            call(mirror, &self.parameters);
+            call(&mut mirror.connection, &self.parameters);
         }
     }
 
     fn same(&self, table: &Table) -> Result<(), String> {
         for (node, mirror) in &self.reads {
-            let (held, shown) = (table.get(*node), shown(mirror)?);
+            let (held, shown) = (table.get(*node), mirror.shown()?);
             if held != Some(&shown) {
                 return Err(format!("the mirror has {shown:?}, the manager {held:?}"));
             }
@@ -89,6 +103,18 @@ impl Mirrors {
     }
 }
 
-fn shown(mirror: &Connection) -> Result<Held, String> {
-    debug_text::connection(&format!("{mirror:?}"))
+impl Mirror {
+    fn shown(&self) -> Result<Held, String> {
+        debug_text::connection(&format!("{:?}", self.connection))
+    }
+
+    fn value(&self) -> Result<Value, String> {
+        let shown = self.shown()?;
+        Ok(Value {
+            node: shown.node,
+            index: self.index,
+            sub_index: self.sub_index,
+            data: shown.buffer,
+        })
+    }
 }

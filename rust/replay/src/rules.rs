@@ -113,6 +113,7 @@ rules! {
         UploadCompleteEmpty "UploadInProgress: Complete with no payload"
         UploadExpeditedLate "UploadInProgress: Expedited: BadSegment"
         UploadInitiateLate "UploadInProgress: Initiate: BadSegment"
+        UploadNothing "an upload of no bytes ends"
         Upload4096 "an upload of 4,096 bytes ends"
         UploadAfterRefusal "a reply is taken after a 7 undid one to the same command"
     }

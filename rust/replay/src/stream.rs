@@ -1,5 +1,5 @@
-//! Standard input to standard output, in the two forms: document 01's lines alone, as fast as the
-//! repository allows, and with a state line after each.
+//! Standard input to standard output, in three forms: document 01's lines alone, as fast as the
+//! repository allows; with a state line after each; and what each read brought that ended Complete.
 
 use crate::client::{Answer, Client};
 use crate::gather::{Gather, Turn};
@@ -63,6 +63,23 @@ pub fn with_state(mut input: impl Read, output: impl Write) -> io::Result<()> {
             let step = watched.step(bytes, lines);
             step.map(|_| ()).map_err(io::Error::other)
         }
+    })
+}
+
+/// A line for each read that ends Complete, with both parameters absent.
+pub fn values(input: impl Read, output: impl Write) -> io::Result<()> {
+    let mut watched = Watched::new(ObjectDictionary::default());
+    // The lines of a record, which nobody wants here.
+    let mut unwanted = Vec::new();
+    run(input, output, |number, next, lines| {
+        if let Next::Record(bytes) = next {
+            unwanted.clear();
+            let step = watched.step(bytes, &mut unwanted);
+            if let Some(value) = step.map_err(io::Error::other)?.read {
+                line::put_value(lines, number, &value);
+            }
+        }
+        Ok(())
     })
 }
 

@@ -10,14 +10,12 @@ pub struct Sum {
 }
 
 impl Sum {
-    pub const EMPTY: Self = Self {
-        length: 0,
-        fnv: BASIS,
-    };
-
-    pub fn add(&mut self, byte: u8) {
-        self.length += 1;
-        self.fnv = (self.fnv ^ u32::from(byte)).wrapping_mul(PRIME);
+    pub fn of(bytes: &[u8]) -> Self {
+        let add = |fnv: u32, byte: &u8| (fnv ^ u32::from(*byte)).wrapping_mul(PRIME);
+        Self {
+            length: bytes.len(),
+            fnv: bytes.iter().fold(BASIS, add),
+        }
     }
 }
 
@@ -33,10 +31,8 @@ mod tests {
             ("a", 0xE40C_292C),
             ("foobar", 0xBF9C_F968),
         ] {
-            let mut sum = Sum::EMPTY;
-            text.bytes().for_each(|byte| sum.add(byte));
-            assert_eq!(sum.fnv, fnv, "{text}");
-            assert_eq!(sum.length, text.len());
+            let length = text.len();
+            assert_eq!(Sum::of(text.as_bytes()), Sum { length, fnv }, "{text}");
         }
     }
 }

@@ -1,7 +1,5 @@
 //! The repository's table as its Debug text shows it: who is held, in which state, with which numbers.
 
-use crate::sum::Sum;
-
 /// A connection's state, by the number that a state line shows.
 #[derive(Debug, Clone, Copy, PartialEq, Eq)]
 #[repr(u8)]
@@ -32,7 +30,7 @@ pub struct Held {
     pub send: u8,
     pub last: u8,
     /// The transfer that is loaded, or what an upload has brought.
-    pub buffer: Sum,
+    pub buffer: Vec<u8>,
     pub offset: usize,
     pub total: usize,
     pub deadline: Option<u64>,
@@ -46,10 +44,10 @@ pub struct Held {
 
 impl Held {
     /// What an upload has brought so far; in other states the buffer is a transfer to be sent.
-    pub fn uploaded(&self) -> Sum {
+    pub fn uploaded(&self) -> &[u8] {
         match self.state {
-            State::UploadInit | State::UploadInProgress => self.buffer,
-            _ => Sum::EMPTY,
+            State::UploadInit | State::UploadInProgress => &self.buffer,
+            _ => &[],
         }
     }
 
@@ -57,7 +55,7 @@ impl Held {
     pub fn gives(&self) -> bool {
         let something = match self.state {
             State::Opening | State::DownloadInProgress | State::UploadInProgress => true,
-            State::Established => self.buffer.length > 0 || self.read_waits,
+            State::Established => !self.buffer.is_empty() || self.read_waits,
             State::Idle | State::UploadInit | State::Closed => false,
         };
         something && self.outstanding.is_none()

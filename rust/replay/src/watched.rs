@@ -5,10 +5,10 @@ use crate::gather::{Gather, Turn};
 use crate::line;
 use crate::mirror::Mirrors;
 use crate::refusal::Refusal;
-use crate::sum::Sum;
 use crate::table::Table;
 use oracle::ObjectDictionary;
 use record::{Record, RecordBytes, OPERATION};
+use replay_line::Value;
 
 /// A record, and everything around it.
 pub struct Step {
@@ -21,7 +21,7 @@ pub struct Step {
     pub after: Table,
     pub next: Option<u64>,
     /// What a read brought that this record ended Complete.
-    pub read: Option<Sum>,
+    pub read: Option<Value>,
 }
 
 pub struct Watched {
@@ -68,7 +68,7 @@ impl Watched {
                 outcome
             }
         };
-        self.put(Some(bytes[OPERATION]), &outcome, read, out);
+        self.put(Some(bytes[OPERATION]), &outcome, read.as_ref(), out);
         Ok(Step {
             bytes: *bytes,
             turn,
@@ -90,7 +90,7 @@ impl Watched {
         &mut self,
         operation: Option<u8>,
         outcome: &Outcome,
-        read: Option<Sum>,
+        read: Option<&Value>,
         out: &mut Vec<u8>,
     ) {
         self.number += 1;

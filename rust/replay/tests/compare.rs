@@ -26,7 +26,13 @@ fn folder(name: &str, scripts: &[(&str, &str)]) -> PathBuf {
 fn oracles(name: &str) -> PathBuf {
     let state = format!("exec {ORACLE} state");
     let plain = format!("exec {ORACLE} plain");
-    folder(name, &[("replay_states", &state), ("replay", &plain)])
+    let values = format!("exec {ORACLE} values");
+    let scripts = [
+        ("replay_states", &state[..]),
+        ("replay", &plain),
+        ("values", &values),
+    ];
+    folder(name, &scripts)
 }
 
 /// The comparison over so many records.
@@ -49,19 +55,24 @@ fn the_oracle_is_like_itself() {
     let (passed, text) = compared(&oracles("same"));
     assert!(passed, "{text}");
     assert!(!text.contains("DIFFERENCE"), "{text}");
-    assert!(text.contains("traces that differ: 0"), "{text}");
+    assert_eq!(text.matches("traces that differ: 0\n").count(), 3, "{text}");
+    assert!(text.contains("reads that ended Complete in the traces compared\n"));
 }
 
 #[test]
 fn a_wrong_program() {
-    // One invents a delivered figure, the other forgets a record.
+    // One invents a delivered figure, one forgets a record, and one the last byte that a read brought.
     let state = format!("{ORACLE} state | sed 's/:T:0/:T:1/'");
     let plain = format!("{ORACLE} plain | sed 's/^300 .*/300 0 0 - - -/'");
-    let (passed, text) = compared(&folder(
-        "wrong",
-        &[("replay_states", &state), ("replay", &plain)],
-    ));
+    let values = format!("{ORACLE} values | sed 's/..$//'");
+    let scripts = [
+        ("replay_states", &state[..]),
+        ("replay", &plain),
+        ("values", &values),
+    ];
+    let (passed, text) = compared(&folder("wrong", &scripts));
     assert!(!passed);
+    assert!(text.contains("DIFFERENCE in values, seed "), "{text}");
     assert!(
         text.contains("DIFFERENCE in replay_states, seed "),
         "{text}"
@@ -72,11 +83,15 @@ fn a_wrong_program() {
 #[test]
 fn a_program_that_stops_early_or_fails() {
     let state = format!("{ORACLE} state | head -n 7");
-    let (passed, text) = compared(&folder(
-        "early",
-        &[("replay_states", &state), ("replay", "exit 3")],
-    ));
+    let values = format!("{ORACLE} values | head -n 1");
+    let scripts = [
+        ("replay_states", &state[..]),
+        ("replay", "exit 3"),
+        ("values", &values),
+    ];
+    let (passed, text) = compared(&folder("early", &scripts));
     assert!(!passed);
+    assert!(text.contains("DIFFERENCE in values, seed "), "{text}");
     assert!(text.contains("record 4\n"), "{text}");
     assert!(text.contains("ours  no line"), "{text}");
     assert!(text.contains("exit status: 3"), "{text}");
@@ -87,7 +102,10 @@ fn a_missing_program() {
     let state = format!("exec {ORACLE} state");
     let (passed, text) = compared(&folder("missing", &[("replay_states", &state)]));
     assert!(!passed);
-    assert!(text.contains("NOT COMPARED: replay is not in "), "{text}");
+    for name in ["replay", "values"] {
+        let told = format!("NOT COMPARED: {name} is not in ");
+        assert!(text.contains(&told), "{text}");
+    }
     assert!(!text.contains("NOT COMPARED: replay_states"), "{text}");
 }
 
@@ -96,8 +114,30 @@ fn nothing_to_compare() {
     let output = compare(&oracles("nothing"), "0").output().unwrap();
     assert_eq!(output.status.code(), Some(1));
     let text = String::from_utf8(output.stdout).unwrap();
-    for name in ["replay_states", "replay"] {
+    for name in ["replay_states", "replay", "values"] {
         let told = format!("NOT COMPARED: no trace has a line for {name}\n");
         assert!(text.contains(&told), "{text}");
+    }
+}
+
+/// Only `values` is wrong, so that what it prints alone fails the comparison.
+#[test]
+fn values_that_are_wrong() {
+    for (name, wrong) in [
+        ("values-object", "sed 's/:../:00/'"),
+        ("values-none", "sed -n 's/^0//p'"),
+        ("values-more", "sed '$p'"),
+        ("values-lower", "tr A-F a-f"),
+    ] {
+        let folder = oracles(name);
+        fs::write(
+            folder.join("values"),
+            format!("#!/bin/sh\n{ORACLE} values | {wrong}\n"),
+        )
+        .unwrap();
+        let (passed, text) = compared(&folder);
+        assert!(!passed, "{name}");
+        assert!(text.contains("DIFFERENCE in values, seed "), "{text}");
+        assert_eq!(text.matches("traces that differ: 0\n").count(), 2, "{text}");
     }
 }

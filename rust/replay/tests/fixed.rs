@@ -4,7 +4,7 @@
 #![cfg(has_oracle)]
 
 use replay_oracle::rules::Rule;
-use replay_oracle::{fixed, stream};
+use replay_oracle::{fixed, generate, stream};
 use std::fs;
 use std::path::Path;
 
@@ -42,7 +42,7 @@ fn they_reach_every_other_rule_in_a_few_thousand_records() {
     assert_eq!(counts.missing(), NOT_REACHED);
     let traces = files.iter().filter(|(name, _)| name.ends_with("/stdin"));
     let records: usize = traces.map(|(_, trace)| trace.len() / 32).sum();
-    assert!(records < 6_000, "{records}");
+    assert!(records < 7_000, "{records}");
 }
 
 #[test]
@@ -55,6 +55,9 @@ fn the_oracle_as_a_stream_says_the_same() {
         stream::with_state(&file(&format!("{name}/stdin"))[..], &mut lines).unwrap();
         assert!(lines == file(&format!("{name}/stdout")), "{name}");
     }
+    let mut lines = Vec::new();
+    stream::values(&file("values/stdin")[..], &mut lines).unwrap();
+    assert!(lines == file("values/stdout"));
 }
 
 #[test]
@@ -72,4 +75,27 @@ fn the_edges_of_document_01() {
     let state = String::from_utf8(file("replay_states/stdout")).unwrap();
     let abort = state.lines().nth(2).unwrap();
     assert_eq!(abort, "2 5 0 1 FE000000000120000400000000000405 1:T:0");
+}
+
+/// Reads of each kind stand in the sample of values, and it ends inside a record.
+#[test]
+fn the_sample_of_values() {
+    let run = generate::fixed_values().unwrap();
+    for rule in [
+        Rule::UploadExpedited,
+        Rule::UploadComplete,
+        Rule::UploadNothing,
+        Rule::Upload4096,
+        Rule::EndBadSegment,
+        Rule::EndPeerAborted,
+        Rule::NoRoomComplete,
+        Rule::DuplicateUpload,
+        Rule::EndWrite,
+        Rule::EightHeld,
+        Rule::ShortLater,
+    ] {
+        assert!(run.counts.of(rule) > 0, "{rule:?}");
+    }
+    let lines = run.values.iter().filter(|byte| **byte == b'\n').count();
+    assert_eq!(lines as u64, run.counts.of(Rule::EndRead));
 }

@@ -6,7 +6,7 @@
 use replay_oracle::{cover, generate, stream};
 
 /// So many records reach every rule, with something to spare.
-const ENOUGH: usize = 200_000;
+const ENOUGH: usize = 500_000;
 const SEEDS: std::ops::Range<u64> = 0..60;
 
 #[test]
@@ -43,11 +43,13 @@ fn the_oracle_as_a_stream_says_the_same() {
         let mut lines = Vec::new();
         stream::with_state(&run.with_parameters()[..], &mut lines).unwrap();
         assert!(lines == run.lines, "seed {seed}");
-        if run.parameters.timeout.is_none() && run.parameters.retries.is_none() {
+        if run.is_plain() {
             absent += 1;
-            let mut plain = Vec::new();
+            let [mut plain, mut values] = [vec![], vec![]];
             stream::plain(&run.records[..], &mut plain).unwrap();
             assert!(plain == run.plain_lines(), "seed {seed}");
+            stream::values(&run.records[..], &mut values).unwrap();
+            assert!(values == run.values, "seed {seed}");
         }
     }
     assert!(absent > 10, "{absent}");

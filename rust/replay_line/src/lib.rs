@@ -1,11 +1,13 @@
 //! A line of the replay, read (document 01, "Replay"): record number, operation, refusal or 0, node sent
-//! to, bytes sent in hex, ends.
+//! to, bytes sent in hex, ends. And a line of `values`, which reads the same traces (value).
 
 mod end;
 #[cfg(test)]
 mod tests;
+mod value;
 
 pub use end::{End, Reason};
+pub use value::{read_value, Value, ValueLine};
 
 #[derive(Debug, PartialEq, Eq)]
 pub struct Line {

@@ -1,6 +1,7 @@
-//! Document 01's lines, every letter, and lines that are none of the replay's.
+//! Document 01's lines, every letter, and lines that are none of the replay's; lines of `values`, and lines
+//! that are none.
 
-use super::{read, End, Line, Reason, Sent};
+use super::{read, read_value, End, Line, Reason, Sent, Value, ValueLine};
 
 const NOTHING: Line = Line {
     record: 1,
@@ -89,4 +90,57 @@ fn lines_that_are_none_of_the_replays() {
         assert_eq!(read(text.as_bytes()), Err(expected), "{text}");
     }
     assert_eq!(read(b"1 6 0 5 \xFF -"), Err(fields));
+}
+
+#[test]
+fn lines_of_values() {
+    let value = Value {
+        node: 3,
+        index: 0x2100,
+        sub_index: 1,
+        data: vec![0x01, 0x04],
+    };
+    let line = ValueLine { record: 5, value };
+    assert_eq!(read_value(b"5 3 2100:01 0104"), Ok(line));
+    let nothing = Value {
+        node: 255,
+        index: 0xFFFF,
+        sub_index: 0xFF,
+        data: vec![],
+    };
+    let line = ValueLine {
+        record: 65_535,
+        value: nothing,
+    };
+    assert_eq!(read_value(b"65535 255 FFFF:FF -\r"), Ok(line));
+}
+
+#[test]
+fn lines_that_are_none_of_values() {
+    let fields = "four fields: record number, node, object, data";
+    let node = "a node from 0 to 255 second";
+    let object = "an object such as 2100:01 third";
+    let data = "data in hex, two digits a byte, or -, last";
+    for (text, expected) in [
+        ("", fields),
+        ("5 3 2100:01", fields),
+        ("5 3 2100:01 01 04", fields),
+        ("1 1 0 - - -", fields),
+        ("x 3 2100:01 0104", "a record number first"),
+        ("- 3 2100:01 0104", "a record number first"),
+        ("5 256 2100:01 0104", node),
+        ("5 - 2100:01 0104", node),
+        ("5 3 210001 0104", object),
+        ("5 3 210:01 0104", object),
+        ("5 3 2100:1 0104", object),
+        ("5 3 02100:01 0104", object),
+        ("5 3 2100:01: 0104", object),
+        ("5 3 -:- 0104", object),
+        ("5 3 2100:01 010", data),
+        ("5 3 2100:01 01x4", data),
+        ("5 3 2100:01 --", data),
+    ] {
+        assert_eq!(read_value(text.as_bytes()), Err(expected), "{text}");
+    }
+    assert_eq!(read_value(b"5 3 2100:01 \xFF"), Err(fields));
 }

@@ -1,6 +1,7 @@
 //! What a command's payload says: the object that is meant, and data, an abort's code or objects in words.
 
 use super::Way;
+use crate::row::object;
 use ostelumiv::{
     CommandId, CommandLayerHeader, ReadByIndexRequest, ReadMultipleParamRequest, Refusal,
     SdoCommand, Segmentation, WriteAllByIndexRequest, WriteByIndexRequest,
@@ -71,10 +72,6 @@ fn starts_request(way: Way, header: &CommandLayerHeader) -> bool {
     );
     let answers = header.is_response || matches!(way, Way::From(_));
     starts && !answers
-}
-
-fn object(index: u16, sub_index: u8) -> String {
-    format!("{index:04X}:{sub_index:02X}")
 }
 
 fn objects(request: ReadMultipleParamRequest) -> Option<String> {

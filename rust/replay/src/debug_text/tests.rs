@@ -1,7 +1,6 @@
 //! The parser on texts of the repository itself, and on texts that were damaged.
 
 use super::{connection, table};
-use crate::sum::Sum;
 use crate::table::{DcfLeft, Held, State, Table};
 use oracle::{Connection, NodeId, ObjectDictionary, SdoClientManager};
 
@@ -9,12 +8,6 @@ use oracle::{Connection, NodeId, ObjectDictionary, SdoClientManager};
 const DCF: [u8; 20] = [
     2, 0, 0, 0, 0x00, 0x21, 1, 2, 0, 0, 0, 0x01, 0x04, 0x01, 0x21, 0, 0, 0, 0, 0,
 ];
-
-fn sum(bytes: &[u8]) -> Sum {
-    let mut sum = Sum::EMPTY;
-    bytes.iter().for_each(|byte| sum.add(*byte));
-    sum
-}
 
 /// A manager with a DCF that has sent its opening, a read that waits, and an Idle node.
 fn manager() -> SdoClientManager {
@@ -38,7 +31,7 @@ fn opening() -> Held {
         transaction: 2,
         send: 1,
         last: 63,
-        buffer: sum(&[0x00, 0x21, 0x01, 0x00, 0x01, 0x04]),
+        buffer: vec![0x00, 0x21, 0x01, 0x00, 0x01, 0x04],
         offset: 0,
         total: 6,
         deadline: Some(15_000_007),
@@ -59,7 +52,7 @@ fn every_field() {
         node: 10,
         transaction: 2,
         send: 0,
-        buffer: Sum::EMPTY,
+        buffer: vec![],
         total: 0,
         deadline: Some(15_000_003),
         outstanding: None,

@@ -48,11 +48,11 @@ pub fn edge_length(rng: &mut Rng) -> usize {
     (total - head).min(MOST_PAYLOAD)
 }
 
-/// How many bytes a reply brings to an upload that has some already.
-pub fn upload_length(rng: &mut Rng, uploaded: usize) -> usize {
+/// How many bytes a reply brings to an upload that has some already. Every sixteen bytes take a record, so
+/// long ones are few: sixteen in so many.
+pub fn upload_length(rng: &mut Rng, uploaded: usize, many: usize) -> usize {
     let left = MOST_BYTES - uploaded.min(MOST_BYTES);
-    // Every sixteen bytes take a record, so long ones are few.
-    let length = match rng.below(150) {
+    let length = match rng.below(many) {
         0 => left,
         1 => left + 1,
         2 => left.saturating_sub(1),

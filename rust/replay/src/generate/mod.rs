@@ -14,6 +14,8 @@ use rng::Rng;
 use stage::Stage;
 use steps::Theme;
 
+/// Of so many seeds one has a trace about values.
+const SEEDS_TO_VALUES: u64 = 4;
 /// How long most traces may become; a step that gathers bytes may go past it.
 const MOST_DRAWN: usize = 1_500;
 
@@ -23,6 +25,8 @@ pub struct Run {
     pub records: Vec<u8>,
     /// Two lines a record.
     pub lines: Vec<u8>,
+    /// A line for each read that ended Complete.
+    pub values: Vec<u8>,
     pub counts: Counts,
 }
 
@@ -32,6 +36,11 @@ impl Run {
         let mut input = parameters::bytes(&self.parameters).to_vec();
         input.extend_from_slice(&self.records);
         input
+    }
+
+    /// Whether both parameters are absent, as they are in the programs that take none.
+    pub fn is_plain(&self) -> bool {
+        self.parameters.timeout.is_none() && self.parameters.retries.is_none()
     }
 
     /// Document 01's lines, without the state lines between them.
@@ -45,14 +54,21 @@ impl Run {
 /// The trace of a seed. An error says that the ledger and the repository do not agree.
 pub fn drawn(seed: u64) -> Result<Run, String> {
     let mut rng = Rng::new(seed.wrapping_mul(0x9E37_79B9_7F4A_7C15) ^ seed << 1);
-    let parameters = draw::parameters(&mut rng);
+    let values = seed % SEEDS_TO_VALUES == SEEDS_TO_VALUES - 1;
+    // The program `values` takes no parameters.
+    let parameters = match values {
+        true => ObjectDictionary::default(),
+        false => draw::parameters(&mut rng),
+    };
     let mut stage = Stage::new(parameters, rng);
     stage.loose = true;
     let most = match stage.rng.below(8) {
         0 => stage.rng.below(3),
         _ => stage.rng.below(MOST_DRAWN),
     };
-    if stage.rng.one_in(5) {
+    if values {
+        draw_steps(&mut stage, Theme::Values, most as u32);
+    } else if stage.rng.one_in(5) {
         play_scenes(&mut stage, most as u32);
     } else {
         let theme = stage.rng.pick(&Theme::ALL);
@@ -63,9 +79,18 @@ pub fn drawn(seed: u64) -> Result<Run, String> {
 
 /// The trace that has more records than are read.
 pub fn longest() -> Result<Run, String> {
+    longest_of(Theme::Mixed)
+}
+
+/// The same about values.
+pub fn longest_about_values() -> Result<Run, String> {
+    longest_of(Theme::Values)
+}
+
+fn longest_of(theme: Theme) -> Result<Run, String> {
     let mut stage = Stage::new(ObjectDictionary::default(), Rng::new(65_535));
     stage.loose = true;
-    draw_steps(&mut stage, Theme::Mixed, MOST_RECORDS);
+    draw_steps(&mut stage, theme, MOST_RECORDS);
     // Its last record is read; what follows is not.
     stage.ask();
     stage.ask();
@@ -106,6 +131,14 @@ pub fn fixed_retries() -> Result<Run, String> {
     let mut stage = Stage::new(parameters, Rng::new(3));
     play_all(&mut stage, &scenes::SCENES);
     stage.finish(&[])
+}
+
+/// The scenes about values, with drawn objects and both parameters absent. It ends inside a record.
+pub fn fixed_values() -> Result<Run, String> {
+    let mut stage = Stage::new(ObjectDictionary::default(), Rng::new(4));
+    stage.loose = true;
+    play_all(&mut stage, &scenes::VALUE_SCENES);
+    stage.finish(&[2; 31])
 }
 
 fn play_all(stage: &mut Stage, scenes: &[scenes::Scene]) {

@@ -58,10 +58,11 @@ pub fn right(stage: &mut Stage, theme: Theme) {
 
 /// The segmentation of a reply that moves its connection on, and how long its payload is.
 fn right_command(stage: &mut Stage, theme: Theme, held: &Held) -> (u8, usize) {
+    let many = if theme == Theme::Values { 500 } else { 150 };
     match held.state {
         State::UploadInit => {
             let expedited = stage.rng.one_in(replies_of(theme));
-            let length = draw::upload_length(&mut stage.rng, 0);
+            let length = draw::upload_length(&mut stage.rng, 0, many);
             if expedited {
                 (EXPEDITED, length)
             } else {
@@ -69,7 +70,7 @@ fn right_command(stage: &mut Stage, theme: Theme, held: &Held) -> (u8, usize) {
             }
         }
         State::UploadInProgress => {
-            let length = draw::upload_length(&mut stage.rng, held.buffer.length);
+            let length = draw::upload_length(&mut stage.rng, held.buffer.len(), many);
             let complete = stage.rng.one_in(replies_of(theme));
             (if complete { COMPLETE } else { SEGMENT }, length)
         }

@@ -3,6 +3,7 @@
 
 use super::Run;
 use crate::client::MOST_BYTES;
+use crate::line;
 use crate::observe::Observer;
 use crate::parameters;
 use crate::rules::Rule;
@@ -45,6 +46,7 @@ pub struct Stage {
     observer: Observer,
     records: Vec<u8>,
     lines: Vec<u8>,
+    values: Vec<u8>,
     number: u32,
     error: Option<String>,
 }
@@ -60,6 +62,7 @@ impl Stage {
             observer: Observer::new(&parameters),
             records: Vec::new(),
             lines: Vec::new(),
+            values: Vec::new(),
             number: 0,
             error: None,
         }
@@ -93,7 +96,12 @@ impl Stage {
         }
         self.number += 1;
         match self.watched.step(&bytes, &mut self.lines) {
-            Ok(step) => self.observer.see(&step),
+            Ok(step) => {
+                self.observer.see(&step);
+                if let Some(value) = &step.read {
+                    line::put_value(&mut self.values, self.number, value);
+                }
+            }
             Err(error) => self.error = Some(format!("record {}: {error}", self.number)),
         }
     }
@@ -237,6 +245,7 @@ impl Stage {
             parameters: self.parameters,
             records: self.records,
             lines: self.lines,
+            values: self.values,
             counts: self.observer.counts().clone(),
         })
     }

@@ -20,9 +20,12 @@ pub enum Theme {
     Numbers,
     /// Long jobs that nothing disturbs, so that sequence numbers come round.
     Patient,
+    /// Many nodes whose reads mostly end Complete, with writes and DCFs between them.
+    Values,
 }
 
 impl Theme {
+    /// Those that are drawn from; traces about values have seeds of their own.
     pub const ALL: [Self; 10] = [
         Self::Mixed,
         Self::Writes,
@@ -49,6 +52,7 @@ impl Theme {
             Self::Noise => [3, 8, 8, 8, 3, 10],
             Self::Numbers => [20, 4, 4, 1, 1, 0],
             Self::Patient => [1, 20, 20, 0, 0, 0],
+            Self::Values => [12, 16, 32, 2, 1, 1],
         }
     }
 
@@ -66,7 +70,12 @@ impl Theme {
 
 /// The nodes that a trace is about. Both ends of the range come often.
 pub fn draw_nodes(stage: &mut Stage, theme: Theme) -> Vec<u8> {
-    let least = if theme == Theme::Crowd { 9 } else { 1 };
+    let least = match theme {
+        Theme::Crowd => 9,
+        // More than may come to be stuck.
+        Theme::Values => 5,
+        _ => 1,
+    };
     let count = least + stage.rng.below(theme.most_nodes() - least + 1);
     (0..count)
         .map(|_| match stage.rng.below(8) {
@@ -124,6 +133,7 @@ fn start(stage: &mut Stage, theme: Theme, nodes: &[u8]) {
         Theme::Reads => 1,
         Theme::Dcfs => 2,
         Theme::Patient => 1 + stage.rng.below(2),
+        Theme::Values => stage.rng.pick(&[0, 1, 1, 1, 1, 1, 1, 2]),
         _ => stage.rng.below(3),
     };
     match job {

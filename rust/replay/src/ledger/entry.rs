@@ -223,7 +223,7 @@ impl Common {
             outstanding: held.outstanding,
             last: held.last,
             sent: held.offset,
-            uploaded: held.uploaded().length,
+            uploaded: held.uploaded().len(),
         }
     }
 }

@@ -110,8 +110,10 @@ impl Observer {
             State::UploadInProgress => self.upload_goes_on(command, refused),
             State::Idle | State::Established | State::Closed => {}
         }
-        if step.read.is_some_and(|read| read.length == MOST_BYTES) {
-            self.reach(Rule::Upload4096);
+        match step.read.as_ref().map(|value| value.data.len()) {
+            Some(0) => self.reach(Rule::UploadNothing),
+            Some(MOST_BYTES) => self.reach(Rule::Upload4096),
+            _ => {}
         }
     }
 

@@ -9,7 +9,8 @@ replied-as-spec =
     (tie.spec
     (λ c. search needs)
     (λ c κs. search needs)
+    (λ c κs. search needs)
     (λ c. search needs)
     (λ c κs. search needs)
-    (λ c. rw (c .before .before .a .given .1) (c .putting .ensures))
+    (λ c. rw (c .before .before .before .a .given .1, ← c .before .value-of .ensures) (c .putting .ensures))
     (λ c. rw (c .before .before .a2 .given .1) (c .same .ensures)))

@@ -3,8 +3,8 @@ use borrow.Author.Needs.{needs}
 use Rattle.replay_piece.proofs.replay.moves.Statement.{statement}
 use Rattle.replay_piece.proofs.replay.moves.Tie as tie
 
-returns-3 : tie.Need-returns-3
-returns-3 c = rw (c .before .before .before .before .before .plan .given .1, c .before .before .entry .given .1) (c .ended .ensures)
+returns-4 : tie.Need-returns-4
+returns-4 c = rw (c .before .before .before .before .before .before .before .enum-told .given .1, c .before .before .before .before .before .plan .given .1, c .before .before .entry .given .1) (c .ended .ensures)
 
 pub moves-spec : {M : Type 1} → statement M
 moves-spec =
@@ -16,7 +16,10 @@ moves-spec =
     (λ c. search needs)
     (λ c. search needs)
     (λ c. search needs)
+    (λ c. search needs)
+    (λ c. search needs)
+    (λ c. search needs)
     (λ c κs. search needs)
-    returns-3
+    returns-4
     (λ c. search needs)
     (λ c. search needs))

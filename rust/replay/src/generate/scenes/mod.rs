@@ -5,6 +5,7 @@ mod dcfs;
 mod jobs;
 mod late;
 mod numbers;
+mod reads;
 mod replay;
 mod replies;
 mod table;
@@ -49,6 +50,20 @@ pub const LONG_SCENES: [Scene; 10] = [
     numbers::sends_round,
     numbers::transactions_round,
     replay::records,
+];
+
+/// Scenes that show what has a line of values and what has none.
+pub const VALUE_SCENES: [Scene; 10] = [
+    jobs::document_run,
+    replies::uploads,
+    reads::together,
+    replies::ignored,
+    replies::duplicates,
+    replies::out_of_sequence,
+    replies::aborted,
+    replies::openings,
+    timeouts::at_each_stage,
+    replies::upload_room,
 ];
 
 /// The stages of a connection, at which replies and timeouts meet it.

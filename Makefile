@@ -35,14 +35,16 @@ trace:
 	@cd rust && cargo build --release --offline --quiet -p trace
 	@rust/target/release/trace $(DO)
 
-# The replay's lines on standard input to a capture file for Wireshark on standard output: what was sent.
+# The replay's lines on standard input to a capture file for Wireshark on standard output: what was sent. DO=--published-flags moves the flags
+# to the order that Wireshark reads.
 capture: DO =
 capture:
 	@cd rust && cargo build --release --offline --quiet -p capture
 	@rust/target/release/capture $(DO)
 
-# The whole client against the repository's: RECORDS records drawn, every line, state and value compared, and how often each rule was reached;
-# the replay and values of traces/ held to their lines, and random bytes through both.
+# The whole client against the repository's: RECORDS records drawn, and as many again in published mode, every line, state and value compared,
+# and how often each rule was reached; the replay and values of traces/ held to their lines, and random bytes through both; replay_states in
+# each of its modes.
 RECORDS = 1000000
 compare:
 	@rt check replay replay_states values 1>&2
@@ -51,12 +53,16 @@ compare:
 	@tests/traces
 	@tests/random
 	@tests/values
+	@tests/modes
 	@rust/target/release/replay_oracle compare $(RECORDS)
 
 # What Wireshark's dissector reads in the frames that the client sends, held to what was sent: those of the file that LINES names, which
-# has lines of the replay; without it those of traces/ through target/run/replay. An exported LINES is the terminal's height, not a file.
+# has lines of the replay; without it those of traces/ through replay, and writes in both modes through replay_states, both proved and built.
+# An exported LINES is the terminal's height, not a file.
 dissect: FILES = $(if $(filter command,$(firstword $(origin LINES))),$(LINES))
 dissect:
+	@$(if $(FILES),,rt check replay replay_states 1>&2)
+	@$(if $(FILES),,tests/programs)
 	@cd rust && cargo build --release --offline --quiet -p trace -p capture
 	@tests/dissect $(FILES)
 

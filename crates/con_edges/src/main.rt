@@ -1,5 +1,5 @@
-// Document 01's own run and its edges, through the connection's calls. What this program writes is held to the file stdout, whose lines
-// are the paper's numbers.
+// Document 01's own run and its edges, and the parts of both modes (document 02, CR 2), through the connection's calls. What this program
+// writes is held to the file stdout, whose lines are the papers' numbers.
 use codec::command::CommandId;
 use codec::command::CommandLayerHeader;
 use codec::command::DataSize;
@@ -11,6 +11,7 @@ use codec::sequence::SequenceLayerHeader;
 use codec::sequence::SequenceRead;
 use codec::sequence::Written;
 use con_rec::EndFound;
+use con_rec::Mode;
 use con_rec::Now;
 use con_rec::Outgoing;
 use con_rec::Parameter;
@@ -29,6 +30,8 @@ use connection::tick::tick;
 use console::number;
 use console::small;
 use console::text;
+
+mod totals;
 
 // The bytes of a command that goes out: sequence header, command.
 fn frame(o: Outgoing, room: &[u8]) {
@@ -90,7 +93,7 @@ fn letter(r: Reason) {
 }
 
 // The end, as node:letter:delivered, or `-`.
-fn end(c: SdoClientConnection) {
+pub(crate) fn end(c: SdoClientConnection) {
     text(b"end ");
     match c.end() {
         EndFound::End(e) => {
@@ -106,7 +109,7 @@ fn end(c: SdoClientConnection) {
     text(b"\n");
 }
 
-fn absent(time: u64) -> Now {
+pub(crate) fn absent(time: u64) -> Now {
     Now {
         time,
         timeout: Parameter::Absent,
@@ -123,10 +126,10 @@ fn with_retries(time: u64, n: u32) -> Now {
 }
 
 // A reply as the replay has it: two sequence octets, command Nil, no data.
-fn reply(c: SdoClientConnection, octet0: u8, octet1: u8, room: &mut [u8]) -> SdoClientConnection {
+pub(crate) fn replied(c: SdoClientConnection, octet0: u8, octet1: u8, room: &mut [u8]) -> Taken {
     let octets = [octet0, octet1, 0, 0];
     let SequenceRead::Header(seq) = SequenceLayerHeader::deserialize(&octets) else {
-        return c;
+        return Taken::Connection(c);
     };
     let cmd = SdoCommand {
         header: CommandLayerHeader {
@@ -140,7 +143,11 @@ fn reply(c: SdoClientConnection, octet0: u8, octet1: u8, room: &mut [u8]) -> Sdo
         data_size: DataSize::Absent,
     };
     let none = [0u8; 0];
-    came(b"reply ", handle_response(c, seq, cmd, &none, room), c)
+    handle_response(c, seq, cmd, &none, room)
+}
+
+fn reply(c: SdoClientConnection, octet0: u8, octet1: u8, room: &mut [u8]) -> SdoClientConnection {
+    came(b"reply ", replied(c, octet0, octet1, room), c)
 }
 
 // Document 01's five records.
@@ -148,11 +155,7 @@ fn run() {
     let mut room = [0u8; 4096];
     let new = SdoClientConnection::new(5, 0);
     let bytes = [0x01, 0x04];
-    let c = came(
-        b"write ",
-        start_write_job(new, 0x2100, 1, &bytes, 1, absent(0), &mut room),
-        new,
-    );
+    let c = came(b"write ", write_of(new, &bytes, &mut room), new);
     let c = show(b"ask ", get_pending_request(c, absent(0)), c, &room);
     let c = reply(c, 0x01, 0x01, &mut room);
     let c = show(b"ask ", get_pending_request(c, absent(0)), c, &room);
@@ -166,7 +169,7 @@ fn timeouts() {
     let new = SdoClientConnection::new(5, 0);
     let c = came(
         b"read ",
-        start_read_job(new, 0x2100, 1, 1, with_retries(0, 0)),
+        start_read_job(new, Mode::Repository, 0x2100, 1, 1, with_retries(0, 0)),
         new,
     );
     let c = show(b"tick ", tick(c, with_retries(14999999, 0)), c, &room);
@@ -174,7 +177,7 @@ fn timeouts() {
     end(c);
     let d = came(
         b"read ",
-        start_read_job(new, 0x2100, 1, 1, with_retries(0, 1)),
+        start_read_job(new, Mode::Repository, 0x2100, 1, 1, with_retries(0, 1)),
         new,
     );
     let d = show(b"tick ", tick(d, with_retries(15000000, 1)), d, &room);
@@ -187,7 +190,11 @@ fn timeouts() {
 fn repeats() {
     let mut room = [0u8; 4096];
     let new = SdoClientConnection::new(5, 0);
-    let c = came(b"read ", start_read_job(new, 0x2100, 1, 7, absent(0)), new);
+    let c = came(
+        b"read ",
+        start_read_job(new, Mode::Repository, 0x2100, 1, 7, absent(0)),
+        new,
+    );
     let c = show(b"ask ", get_pending_request(c, absent(0)), c, &room);
     let c = show(b"ask ", get_pending_request(c, absent(0)), c, &room);
     let c = show(b"tick ", tick(c, absent(15000000)), c, &room);
@@ -196,24 +203,25 @@ fn repeats() {
     end(c);
 }
 
+// A write of 2100:01 as the first start of a connection's.
+fn write_of(c: SdoClientConnection, data: &[u8], room: &mut [u8]) -> Taken {
+    start_write_job(c, Mode::Repository, 0x2100, 1, data, 1, absent(0), room)
+}
+
 // 7 NoRoom at 4,093 data bytes and not at 4,092; then 4 Busy.
 fn rooms() {
     let mut room = [0u8; 4096];
     let new = SdoClientConnection::new(5, 0);
     let data = [7u8; 4096];
     let over = part(&data, 0, 4093);
-    let c = came(
-        b"write 4093 ",
-        start_write_job(new, 0x2100, 1, over, 1, absent(0), &mut room),
-        new,
-    );
+    let c = came(b"write 4093 ", write_of(new, over, &mut room), new);
     let most = part(&data, 0, 4092);
+    let c = came(b"write 4092 ", write_of(c, most, &mut room), c);
     let c = came(
-        b"write 4092 ",
-        start_write_job(c, 0x2100, 1, most, 1, absent(0), &mut room),
+        b"read ",
+        start_read_job(c, Mode::Repository, 0x2100, 1, 1, absent(0)),
         c,
     );
-    let c = came(b"read ", start_read_job(c, 0x2100, 1, 1, absent(0)), c);
     end(c);
 }
 
@@ -224,12 +232,19 @@ fn refusals() {
     let three = [2u8, 0, 0];
     let c = came(
         b"dcf ",
-        start_concise_dcf_job(new, &three, 1, absent(0), &mut room),
+        start_concise_dcf_job(new, Mode::Repository, &three, 1, absent(0), &mut room),
         new,
     );
     let c = came(
         b"read ",
-        start_read_job(c, 0x2100, 1, 1, absent(18446744073709551615)),
+        start_read_job(
+            c,
+            Mode::Repository,
+            0x2100,
+            1,
+            1,
+            absent(18446744073709551615),
+        ),
         c,
     );
     end(c);
@@ -241,4 +256,5 @@ fn main() {
     repeats();
     rooms();
     refusals();
+    totals::totals();
 }

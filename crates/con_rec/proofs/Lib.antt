@@ -1,3 +1,4 @@
 pub mod PartsJoined
 pub mod PayloadWritten
+pub mod PublishedParts
 pub mod Wires

@@ -7,6 +7,7 @@ use Rattle.con_rec.specs.Types.{
   CommandId,
   DataSize,
   Message,
+  Mode,
   Outgoing,
   ReceiveConnState,
   SdoClientConnection,
@@ -17,13 +18,14 @@ use Rattle.con_rec.specs.Types.{
   Transfer,
 }
 
--- a command with the connection's numbers
+-- a command with the connection's numbers and its job's mode
 abbrev pub outgoing : SdoClientConnection → Message → Outgoing
 outgoing c message =
     record {
       receive = c .«last_received_sequence_number»;
       send = c .«send_sequence_number»;
       transaction = c .«transaction_id»;
+      mode = c .job .mode;
       message = message;
     }
 
@@ -90,20 +92,20 @@ commandWith transaction aborted kind id segment size =
     }
 
 -- Opening: empty Nil command. The read command: Expedited ReadByIndex (index, sub-index, 0). UploadInProgress: empty Segment ReadByIndex.
--- An entry or a write is sent by WriteByIndex, in parts. The abort command: a Nil command with the abort mark and a code of 4 bytes.
-abbrev pub commandBy : Message → ℕ → SdoCommand
-commandBy Message.Opening transaction =
+-- An entry or a write is sent by WriteByIndex, in parts, cut by the job's mode. The abort command: a Nil command with the abort mark and a code of 4 bytes.
+abbrev pub commandBy : Mode → Message → ℕ → SdoCommand
+commandBy mode Message.Opening transaction =
     commandWith transaction false Segmentation.Expedited CommandId.Nil 0 DataSize.Absent
-commandBy (Message.Read index sub) transaction =
+commandBy mode (Message.Read index sub) transaction =
     commandWith transaction false Segmentation.Expedited CommandId.ReadByIndex 4 DataSize.Absent
-commandBy Message.Next transaction =
+commandBy mode Message.Next transaction =
     commandWith transaction false Segmentation.Segment CommandId.ReadByIndex 0 DataSize.Absent
-commandBy (Message.First t) transaction =
-    commandWith transaction false (firstKind (total t)) CommandId.WriteByIndex (partLength (total t)) (firstSize (total t))
-commandBy (Message.Later t sent) transaction =
+commandBy mode (Message.First t) transaction =
+    commandWith transaction false (firstKind mode (total t)) CommandId.WriteByIndex (partLength (total t)) (firstSize mode (total t))
+commandBy mode (Message.Later t sent) transaction =
     commandWith transaction false (laterKind (total t - sent)) CommandId.WriteByIndex (partLength (total t - sent)) DataSize.Absent
-commandBy (Message.Abort code) transaction =
+commandBy mode (Message.Abort code) transaction =
     commandWith transaction true Segmentation.Expedited CommandId.Nil 4 DataSize.Absent
 
 abbrev pub commandOf : Outgoing → SdoCommand
-commandOf o = commandBy (o .message) (o .transaction)
+commandOf o = commandBy (o .mode) (o .message) (o .transaction)

@@ -1,28 +1,21 @@
--- The parts of a transfer, for every total (document 01, "Bytes"), over the largest total that goes Expedited. First part: min(total, 1452)
--- bytes, Expedited if total ≤ limit, else Initiate with data size total - 4. Later parts: Complete if at most 1452 remain, else Segment.
+-- The parts of a transfer, for every total and in either mode (document 01, "Bytes"; document 02, CR 2): the first, and later ones until
+-- nothing remains.
 use Prim.Native.Nat.{ℕ, zero, suc, _+_, _-_, _/_}
+use mathlib.Core.Path.{_≡_}
 use mathlib.Core.List.{List, [], _∷_, _++_}
-use lib.Dec.{leb}
 use lib.ListN.{take, drop}
-use Rattle.laws.specs.Pick.{pick}
 use Rattle.codec.specs.Bytes.{Bytes}
 use Rattle.con_rec.specs.Commands.{commandOf}
-use Rattle.con_rec.specs.Parts.{most, partLength, laterKind}
-use Rattle.con_rec.specs.Types.{DataSize, Outgoing, Segmentation}
+use Rattle.con_rec.specs.Parts.{most, partLength, firstKind, firstSize, laterKind}
+use Rattle.con_rec.specs.Types.{DataSize, Mode, Outgoing, Segmentation}
 
 pub record Part : Type 0 where
   pub kind : Segmentation
   pub length : ℕ
   pub size : DataSize
 
-abbrev pub kindUpto : ℕ → ℕ → Segmentation
-kindUpto limit total = pick (leb total limit) Segmentation.Expedited Segmentation.Initiate
-
-abbrev pub sizeUpto : ℕ → ℕ → DataSize
-sizeUpto limit total = pick (leb total limit) DataSize.Absent (DataSize.Present (total - 4))
-
-abbrev pub firstOf : ℕ → ℕ → Part
-firstOf limit total = record { kind = kindUpto limit total; length = partLength total; size = sizeUpto limit total }
+abbrev pub firstOf : Mode → ℕ → Part
+firstOf mode total = record { kind = firstKind mode total; length = partLength total; size = firstSize mode total }
 
 abbrev pub laterOf : ℕ → Part
 laterOf rest = record { kind = laterKind rest; length = partLength rest; size = DataSize.Absent }
@@ -35,9 +28,16 @@ laterParts (suc k) rest = laterOf rest ∷ laterParts k (rest - partLength rest)
 abbrev pub laterCount : ℕ → ℕ
 laterCount rest = (rest + (most - 1)) / most
 
-abbrev pub partsOf : ℕ → ℕ → List Part
-partsOf limit total =
-    firstOf limit total ∷ laterParts (laterCount (total - partLength total)) (total - partLength total)
+abbrev pub partsOf : Mode → ℕ → List Part
+partsOf mode total =
+    firstOf mode total ∷ laterParts (laterCount (total - partLength total)) (total - partLength total)
+
+-- no Complete follows an Expedited
+abbrev pub NoneFollows : List Part → Type 0
+NoneFollows [] = Unit {0}
+NoneFollows (p ∷ []) = Unit {0}
+NoneFollows (p ∷ q ∷ ps) =
+    (p .kind ≡ Segmentation.Expedited → q .kind ≡ Segmentation.Complete → ⊥) × NoneFollows (q ∷ ps)
 
 -- the sum of the lengths; bytes cut at these lengths; and the pieces joined
 abbrev pub lengths : List Part → ℕ

@@ -7,6 +7,7 @@ use Rattle.con_rec.specs.Types.{
   Deadline,
   EndFound,
   LoadedTransfer,
+  Mode,
   Outcome,
   Outstanding,
   PendingRead,
@@ -21,6 +22,7 @@ use Rattle.con_rec.specs.Types.{
 abbrev pub nothingWaits : Waiting
 nothingWaits = record { «last_sent_command» = Outstanding.Nothing; deadline = Deadline.Never; «retries_left» = 0 }
 
+-- no job; nothing asks its mode
 abbrev pub noJob : SdoJob
 noJob =
     record {
@@ -31,6 +33,7 @@ noJob =
       «pending_read» = PendingRead.NoRead;
       uploaded = 0;
       delivered = 0;
+      mode = Mode.Repository;
     }
 
 abbrev pub newConnection : ℕ → ℕ → SdoClientConnection

@@ -1,6 +1,8 @@
 // A command that goes out: its sequence header and its command, made of its numbers and of which command it is.
 ghost use mathlib.Core.Path.{_≡_};
 ghost use mathlib.Core.Bool.{false};
+ghost use Prim.Native.Nat.{_-_};
+ghost use Rattle.con_rec.specs.Parts.{total, partLength, laterKind};
 ghost use Rattle.con_rec.specs.Commands.{
   outgoing,
   receiveState,
@@ -11,6 +13,7 @@ ghost use Rattle.con_rec.specs.Commands.{
   commandOf,
 };
 use crate::Message;
+use crate::Mode;
 use crate::Outgoing;
 use crate::SdoClientConnection;
 use crate::Transfer;
@@ -29,14 +32,17 @@ use codec::sequence::ReceiveConnState;
 use codec::sequence::SendConnState;
 use codec::sequence::SequenceLayerHeader;
 
-// A command with the connection's numbers.
+// A command with the connection's numbers and its job's mode.
 pub fn numbered(c: SdoClientConnection, message: Message) -> Outgoing
     ensures { λ r. ⌜ r ≡ outgoing c message ⌝ }
 {
+    let job = c.job;
+    let mode = job.mode;
     Outgoing {
         receive: c.last_received_sequence_number,
         send: c.send_sequence_number,
         transaction: c.transaction_id,
+        mode,
         message,
     }
 }
@@ -109,22 +115,23 @@ fn plain(transaction: u8, kind: Segmentation, id: CommandId, segment: u16) -> Sd
     command_with(transaction, false, kind, id, segment, DataSize::Absent)
 }
 
-fn first_part(t: Transfer, transaction: u8) -> SdoCommand
-    ensures { λ r. ⌜ r ≡ commandBy (Message.First t) transaction ⌝ }
+fn first_part(mode: Mode, t: Transfer, transaction: u8) -> SdoCommand
+    ensures { λ r. ⌜ r ≡ commandBy mode (Message.First t) transaction ⌝ }
 {
     let all = total_of(t);
     command_with(
         transaction,
         false,
-        first_kind(all),
+        first_kind(mode, all),
         CommandId::WriteByIndex,
         part_length(all),
-        first_size(t),
+        first_size(mode, t),
     )
 }
 
+// A later part is the same in either mode.
 fn later_part(t: Transfer, sent: u64, transaction: u8) -> SdoCommand
-    ensures { λ r. ⌜ r ≡ commandBy (Message.Later t sent) transaction ⌝ }
+    ensures { λ r. ⌜ r ≡ commandWith transaction false (laterKind (total t - sent)) CommandId.WriteByIndex (partLength (total t - sent)) DataSize.Absent ⌝ }
 {
     let rest = rest_of(total_of(t), sent);
     command_with(
@@ -156,6 +163,7 @@ impl Outgoing {
         ensures { λ r. ⌜ r ≡ commandOf self ⌝ }
     {
         let message = self.message;
+        let mode = self.mode;
         let id = self.transaction;
         match message {
             Message::Opening => return plain(id, Segmentation::Expedited, CommandId::Nil, 0),
@@ -164,7 +172,7 @@ impl Outgoing {
                 sub_index: _,
             } => return plain(id, Segmentation::Expedited, CommandId::ReadByIndex, 4),
             Message::Next => return plain(id, Segmentation::Segment, CommandId::ReadByIndex, 0),
-            Message::First(t) => return first_part(t, id),
+            Message::First(t) => return first_part(mode, t, id),
             Message::Later { transfer, from } => return later_part(transfer, from, id),
             Message::Abort(_) => return command_with(
                 id,

@@ -47,6 +47,13 @@ pub enum Moment {
     OutOfRange,
 }
 
+// Which rules a job follows where document 02 changes those of document 01: the repository's, or the published ones (CR 2). A start chooses it, and
+// the rules ask a function of it, such as `limit`.
+pub enum Mode {
+    Repository,
+    Published,
+}
+
 // The read command of a job that reads.
 pub enum PendingRead {
     Read { index: u16, sub_index: u8 },
@@ -77,11 +84,12 @@ pub enum Message {
     Abort(u32),
 }
 
-// A command that goes out: the numbers of its headers, and which command it is.
+// A command that goes out: the numbers of its headers, the mode of its job, and which command it is.
 pub struct Outgoing {
     pub receive: u8,
     pub send: u8,
     pub transaction: u8,
+    pub mode: Mode,
     pub message: Message,
 }
 
@@ -108,7 +116,8 @@ pub enum Outcome {
 }
 
 // The job: how many bytes of the room are its own, where its next entry begins and how many are still counted, the transfer that is
-// loaded and how many bytes of it were sent, the read command, how many bytes an upload has brought, and the transfers delivered.
+// loaded and how many bytes of it were sent, the read command, how many bytes an upload has brought, the transfers delivered, and the
+// mode that its start chose.
 pub struct SdoJob {
     pub size: usize,
     pub cursor: DcfCursor,
@@ -117,6 +126,7 @@ pub struct SdoJob {
     pub pending_read: PendingRead,
     pub uploaded: usize,
     pub delivered: u32,
+    pub mode: Mode,
 }
 
 // What is waited for: a reply to the command outstanding, until the deadline, and so many repeats.
@@ -194,6 +204,7 @@ impl SdoClientConnection {
                 pending_read: PendingRead::NoRead,
                 uploaded: 0,
                 delivered: 0,
+                mode: Mode::Repository,
             },
             waiting: Waiting {
                 last_sent_command: Outstanding::Nothing,

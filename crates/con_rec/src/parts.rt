@@ -1,7 +1,8 @@
-// The parts that a transfer is sent in: the one place that cuts it, by the limits 1452 and 1456.
+// The parts that a transfer is sent in: the one place that cuts it, at 1452 bytes and by the limit of its mode.
 ghost use mathlib.Core.Path.{_≡_};
 ghost use Prim.Native.Nat.{_-_, _<_, _≤_};
-ghost use Rattle.con_rec.specs.Parts.{total, partLength, firstKind, firstSize, laterKind};
+ghost use Rattle.con_rec.specs.Parts.{limit, goesExpedited, total, partLength, firstKind, firstSize, laterKind};
+use crate::Mode;
 use crate::Transfer;
 use codec::command::DataSize;
 use codec::command::Segmentation;
@@ -9,6 +10,16 @@ use codec::command::Segmentation;
 const MAX_CLIENT_PAYLOAD: u64 = 1452;
 
 const MAX_EXPEDITED_TOTAL: u64 = 1456;
+
+// The largest total that goes Expedited.
+fn limit_of(mode: Mode) -> u64
+    ensures { λ r. ⌜ r ≡ limit mode ⌝ }
+{
+    match mode {
+        Mode::Repository => MAX_EXPEDITED_TOTAL,
+        Mode::Published => MAX_CLIENT_PAYLOAD,
+    }
+}
 
 // The bytes of a transfer as it is sent.
 pub fn total_of(t: Transfer) -> u64
@@ -35,11 +46,18 @@ pub fn part_length(rest: u64) -> u16
     }
 }
 
-// The kind of the first part of a total.
-pub(crate) fn first_kind(n: u64) -> Segmentation
-    ensures { λ r. ⌜ r ≡ firstKind n ⌝ }
+// Whether a total goes out by an Expedited and not by an Initiate.
+fn goes_expedited(mode: Mode, n: u64) -> bool
+    ensures { λ r. ⌜ r ≡ goesExpedited mode n ⌝ }
 {
-    if n <= MAX_EXPEDITED_TOTAL {
+    n <= limit_of(mode)
+}
+
+// The kind of the first part of a total.
+pub(crate) fn first_kind(mode: Mode, n: u64) -> Segmentation
+    ensures { λ r. ⌜ r ≡ firstKind mode n ⌝ }
+{
+    if goes_expedited(mode, n) {
         Segmentation::Expedited
     } else {
         Segmentation::Initiate
@@ -47,10 +65,10 @@ pub(crate) fn first_kind(n: u64) -> Segmentation
 }
 
 // The data size that goes with the first part of a transfer.
-pub(crate) fn first_size(t: Transfer) -> DataSize
-    ensures { λ r. ⌜ r ≡ firstSize (total t) ⌝ }
+pub(crate) fn first_size(mode: Mode, t: Transfer) -> DataSize
+    ensures { λ r. ⌜ r ≡ firstSize mode (total t) ⌝ }
 {
-    if total_of(t) <= MAX_EXPEDITED_TOTAL {
+    if goes_expedited(mode, total_of(t)) {
         DataSize::Absent
     } else {
         DataSize::Present(t.len)

@@ -1,5 +1,5 @@
 -- What ask gives one after another for a loaded transfer, each command acknowledged by a reply before the next ask, is exactly the parts
--- of its total, with document 01's limit. Assumes an Established connection with the transfer loaded and nothing outstanding,
+-- of its total, in the job's mode. Assumes an Established connection with the transfer loaded and nothing outstanding,
 -- replies with no abort mark, and a deadline that fits.
 use Prim.Native.Nat.{ℕ, zero, suc, _+_, _-_, _*_, _<_, _%_}
 use native.Mathlib.Omega.{arith}
@@ -13,7 +13,7 @@ use Rattle.codec.specs.Bytes.{Bytes}
 use Rattle.connection.specs.Ask.{withOffset, waitingFor, given, givenAt, askFree, askIn, askFirst, askLater, askOf}
 use Rattle.con_rec.specs.Commands.{firstCommand, laterCommand}
 use Rattle.con_rec.specs.Deadline.{retriesOf, deadlineOf}
-use Rattle.con_rec.specs.Parts.{limit, total, partLength}
+use Rattle.con_rec.specs.Parts.{total, partLength}
 use Rattle.con_rec.specs.PartsOf.{Part, firstOf, laterCount, laterOf, laterParts, partOf, partsOf}
 use Rattle.con_rec.specs.Record.{updated}
 use Rattle.con_reply.specs.AsksGive.{acknowledged, acknowledgement, asksGive, takenTo, numberOf, partsBy, steppedTo}
@@ -144,12 +144,12 @@ pub asks-give : (c : Connection) (t : Transfer) (n : Now) (due : ℕ) (cmd : Sdo
     → deadlineOf (n .time) (n .timeout) ≡ Moment.At due → cmd .header .«is_aborted» ≡ false
     → c .waiting .«last_sent_command» ≡ Outstanding.Nothing → c .state ≡ State.Established
     → c .job .loaded ≡ LoadedTransfer.Loaded t
-    → asksGive (length (partsOf limit (total t))) n cmd room c ≡ partsOf limit (total t)
+    → asksGive (length (partsOf (c .job .mode) (total t))) n cmd room c ≡ partsOf (c .job .mode) (total t)
 asks-give c t n due cmd room fits unmarked e f g =
     ap (λ (m : ℕ). asksGive (suc m) n cmd room c) (later-number (laterCount rest) rest)
     ∙ one-ask cmd room unmarked n due fits t (laterCount rest) c (partLength (total t)) (firstCommand c t)
     (first-given cmd room unmarked n due fits t c e f g)
-    ∙ ap (λ (l : List Part). firstOf limit (total t) ∷ l)
+    ∙ ap (λ (l : List Part). firstOf (c .job .mode) (total t) ∷ l)
     (later-gives cmd room unmarked n due fits t (laterCount rest) rest (firstCommand c t)
     (sentBy n due c (partLength (total t)) (firstCommand c t)) (record { downloads = refl; waits = refl; has = g })
     refl (needed (laterCount rest) rest refl))

@@ -21,6 +21,7 @@ use Rattle.connection.specs.Types.{
   DcfCursor,
   DcfStep,
   LoadedTransfer,
+  Mode,
   Moment,
   Now,
   Outcome,
@@ -90,8 +91,8 @@ module _ (job : Job) (room : Bytes) (x : LoadedTransfer) (k : DcfCursor) (known 
       }
 
   begins : (c : Connection) (t : ℕ) (n : Now) (due : ℕ)
-      → Begins (aimOf job room) (startedAt (Moment.At due) c t n (jobWith (length (bytesOf job)) k x PendingRead.NoRead))
-  begins c t n due =
+      → (mode : Mode) → Begins (aimOf job room) (startedAt (Moment.At due) c t n (jobWith mode (length (bytesOf job)) k x PendingRead.NoRead))
+  begins c t n due mode =
       record {
         carries = carried;
         runs = refl;
@@ -112,17 +113,17 @@ module _ (job : Job) (room : Bytes) (x : LoadedTransfer) (k : DcfCursor) (known 
       held : length (bytesOf job) ≤ length (placed room 0 (bytesOf job))
       held = omega (arith, rw length-take at (ap length (placed-first room (bytesOf job))))
 
-dcf-begins : (dcf room : Bytes) → length dcf ≤ capacity room → (c : Connection) (t : ℕ) (n : Now) (due : ℕ) (s : DcfStep)
-    → Found dcf 4 (countOf dcf) s → Begins (aimOf (loads dcf) room) (startedAt (Moment.At due) c t n (dcfJob s (length dcf) (firstCursor dcf)))
-dcf-begins dcf room h c t n due (DcfStep.Entry index sub start len next) st =
-    begins (loads dcf) room (LoadedTransfer.Loaded _) next (st .0) (omega (arith, st .1)) tt (st .2)
-    (omega (arith, few (countOf dcf) dcf 4)) c t n due
-dcf-begins dcf room h c t n due DcfStep.End st =
-    begins (loads dcf) room LoadedTransfer.Unloaded (firstCursor dcf) refl (omega arith) (st .0) tt
-    (omega (arith, few (countOf dcf) dcf 4)) c t n due
-dcf-begins dcf room h c t n due DcfStep.Unreadable st =
-    begins (loads dcf) room LoadedTransfer.Unloaded (firstCursor dcf) refl (omega arith) (st .0) tt
-    (omega (arith, few (countOf dcf) dcf 4)) c t n due
+dcf-begins : (mode : Mode) (dcf room : Bytes) → length dcf ≤ capacity room → (c : Connection) (t : ℕ) (n : Now) (due : ℕ) (s : DcfStep)
+    → Found dcf 4 (countOf dcf) s → Begins (aimOf (loads mode dcf) room) (startedAt (Moment.At due) c t n (dcfJob mode s (length dcf) (firstCursor dcf)))
+dcf-begins mode dcf room h c t n due (DcfStep.Entry index sub start len next) st =
+    begins (loads mode dcf) room (LoadedTransfer.Loaded _) next (st .0) (omega (arith, st .1)) tt (st .2)
+    (omega (arith, few (countOf dcf) dcf 4)) c t n due mode
+dcf-begins mode dcf room h c t n due DcfStep.End st =
+    begins (loads mode dcf) room LoadedTransfer.Unloaded (firstCursor dcf) refl (omega arith) (st .0) tt
+    (omega (arith, few (countOf dcf) dcf 4)) c t n due mode
+dcf-begins mode dcf room h c t n due DcfStep.Unreadable st =
+    begins (loads mode dcf) room LoadedTransfer.Unloaded (firstCursor dcf) refl (omega arith) (st .0) tt
+    (omega (arith, few (countOf dcf) dcf 4)) c t n due mode
 
 -- a start that is taken, by what it begins
 taken : {c : Connection} {n : Now} {room : Bytes} {Short : Type 0} {size t : ℕ} {j : SdoJob} (a : Aim) {x : Taken}
@@ -134,15 +135,15 @@ taken a f (late i s h k) = tt
 taken a f (begun i s h k) = f h
 
 start-begins : (c : Connection) (t : ℕ) (n : Now) (job : Job) (room : Bytes) → Begins (aimOf job room) (startOf c t n job room)
-start-begins c t n (writes index sub bytes) room =
-    taken (aimOf (writes index sub bytes) room)
+start-begins c t n (writes mode index sub bytes) room =
+    taken (aimOf (writes mode index sub bytes) room)
     (λ h.
-    begins (writes index sub bytes) room (LoadedTransfer.Loaded _) _ (rw (take-length bytes)) refl tt (omega arith) (omega arith) c t n _)
-    (write-view c n room t index sub bytes)
-start-begins c t n (loads dcf) room =
-    taken (aimOf (loads dcf) room)
-    (λ h. dcf-begins dcf room h c _ n _ (dcfStep dcf (firstCursor dcf)) (stepped dcf (firstCursor dcf)))
-    (dcf-view c n room t dcf)
+    begins (writes mode index sub bytes) room (LoadedTransfer.Loaded _) _ (rw (take-length bytes)) refl tt (omega arith) (omega arith) c t n _ mode)
+    (write-view c n room t mode index sub bytes)
+start-begins c t n (loads mode dcf) room =
+    taken (aimOf (loads mode dcf) room)
+    (λ h. dcf-begins mode dcf room h c _ n _ (dcfStep dcf (firstCursor dcf)) (stepped dcf (firstCursor dcf)))
+    (dcf-view c n room t mode dcf)
 
 pub begun-job : (c : Connection) (t : ℕ) (n : Now) (job : Job) (room : Bytes) (d : Connection)
     → startOf c t n job room ≡ Taken.Connection d → Begun (aimOf job room) d

@@ -17,6 +17,7 @@ use Rattle.con_rec.specs.Parts.{wire, total, most, limit, firstKind, laterKind}
 use Rattle.connection.specs.Types.{
   DcfCursor,
   LoadedTransfer,
+  Mode,
   Outgoing,
   PendingRead,
   Reason,
@@ -35,9 +36,9 @@ longer-last [] x p = refl
 longer-last (w ∷ []) x p = refl
 longer-last (w ∷ v ∷ l) x p = ap (λ (r : List Bytes). w ∷ r) (longer-last (v ∷ l) x p)
 
-first-part : (n : ℕ) (l : List Bytes) (p : Bytes) → withPart (firstKind n) l p ≡ l ++ (p ∷ [])
-first-part n l p =
-    either (λ (s : Segmentation). withPart s l p ≡ l ++ (p ∷ [])) (leb n limit) Segmentation.Expedited Segmentation.Initiate refl refl
+first-part : (mode : Mode) (n : ℕ) (l : List Bytes) (p : Bytes) → withPart (firstKind mode n) l p ≡ l ++ (p ∷ [])
+first-part mode n l p =
+    either (λ (s : Segmentation). withPart s l p ≡ l ++ (p ∷ [])) (leb n (limit mode)) Segmentation.Expedited Segmentation.Initiate refl refl
 
 later-part : (n : ℕ) (l : List Bytes) (p : Bytes) → withPart (laterKind n) l p ≡ longer l p
 later-part n l p =
@@ -73,11 +74,11 @@ module _ (a : Aim) (got : List Bytes) where
   in-room {t} {size} j =
       subst (λ (b : Bytes). t .start + t .len ≤ length b → wire (a .room) t ≡ wire b t) (j .holds) (wire-same (a .room) size t) (j .within)
 
-  first-sent : (t : Transfer) (m offset : ℕ) (k : DcfCursor) (delivered : ℕ) (read : PendingRead) (size : ℕ)
+  first-sent : (mode : Mode) (t : Transfer) (m offset : ℕ) (k : DcfCursor) (delivered : ℕ) (read : PendingRead) (size : ℕ)
       → Carried a got State.Established (LoadedTransfer.Loaded t) offset k delivered read size
-      → Carried a (withPart (firstKind (total t)) got (take m (wire (a .room) t))) State.DownloadInProgress (LoadedTransfer.Loaded t) m
+      → Carried a (withPart (firstKind mode (total t)) got (take m (wire (a .room) t))) State.DownloadInProgress (LoadedTransfer.Loaded t) m
       k delivered read size
-  first-sent t m offset k delivered read size j = goes-on _ _ m j tt (rw (first-part, in-room j, j .joined, append-nil))
+  first-sent mode t m offset k delivered read size j = goes-on _ _ m j tt (rw (first-part, in-room j, j .joined, append-nil))
 
   later-sent : (t : Transfer) (m offset : ℕ) (k : DcfCursor) (delivered : ℕ) (read : PendingRead) (size : ℕ)
       → Carried a got State.DownloadInProgress (LoadedTransfer.Loaded t) offset k delivered read size
@@ -93,7 +94,7 @@ module _ (a : Aim) (got : List Bytes) where
       (c .job .size)
   sent c i (opening f e) = rw e at i
   sent c i (first {t} f e l) =
-      let j : Carried a got State.Established (LoadedTransfer.Loaded t) _ _ _ _ _ = rw (e, l) at i in rw l (first-sent t _ _ _ _ _ _ j)
+      let j : Carried a got State.Established (LoadedTransfer.Loaded t) _ _ _ _ _ = rw (e, l) at i in rw l (first-sent (c .job .mode) t _ _ _ _ _ _ j)
   sent c i (reading f e l p) = let z : PendingRead.Read _ _ ≡ PendingRead.NoRead = sym p ∙ i .writes in absurd (never-reads z)
   sent c i (next f e) = absurd (rw e at (i .sending))
   sent c i (later {t} f e l) =

@@ -21,6 +21,7 @@ use Rattle.connection.specs.Start.{readJob, startRead}
 use Rattle.connection.specs.Tick.{repeated, tickOf}
 use Rattle.connection.specs.Types.{
   LoadedTransfer,
+  Mode,
   Taken,
   Now,
   Outcome,
@@ -80,11 +81,11 @@ Steps room (Stepped.Went s) = Consistent (s .connection) room
 Steps room (Stepped.Refused r) = Unit {0}
 
 -- ---- the start of a read
-pub read-sound : (c : Connection) (t : ℕ) (n : Now) (index sub : ℕ) (room : Bytes) (d : Connection)
-    → startRead c t n index sub ≡ Taken.Connection d → Consistent d room
-read-sound c t n index sub room d e = subst (TakenSound room) e (go (read-view c n room t index sub))
+pub read-sound : (c : Connection) (t : ℕ) (n : Now) (mode : Mode) (index sub : ℕ) (room : Bytes) (d : Connection)
+    → startRead c t n mode index sub ≡ Taken.Connection d → Consistent d room
+read-sound c t n mode index sub room d e = subst (TakenSound room) e (go (read-view c n room t mode index sub))
   where
-    go : {x : Taken} → StartView c n room ⊥ 0 t (readJob index sub) x → TakenSound room x
+    go : {x : Taken} → StartView c n room ⊥ 0 t (readJob mode index sub) x → TakenSound room x
     go (busy i) = tt
     go (short i s) = tt
     go (full i s h) = tt
@@ -172,8 +173,8 @@ module _ (c : Connection) (room : Bytes) (i : Consistent c room) where
   out-sized o = go (o .message)
     where
       go : (m : Message) → PartOf (c .job .size) m
-          → (length (payloadFrom room m) ≡ commandBy m (o .transaction) .header .«segment_size»)
-          × (commandBy m (o .transaction) .header .«segment_size» ≤ most)
+          → (length (payloadFrom room m) ≡ commandBy (o .mode) m (o .transaction) .header .«segment_size»)
+          × (commandBy (o .mode) m (o .transaction) .header .«segment_size» ≤ most)
       go Message.Opening p = (refl, omega arith)
       go (Message.Read index sub) p = (refl, omega arith)
       go Message.Next p = (refl, omega arith)

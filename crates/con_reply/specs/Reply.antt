@@ -62,6 +62,7 @@ deliveredOne j =
       «pending_read» = j .«pending_read»;
       uploaded = j .uploaded;
       delivered = oneMore (j .delivered);
+      mode = j .mode;
     }
 
 abbrev pub withTransfer : SdoJob → Transfer → DcfCursor → SdoJob
@@ -74,6 +75,7 @@ withTransfer j t next =
       «pending_read» = j .«pending_read»;
       uploaded = j .uploaded;
       delivered = j .delivered;
+      mode = j .mode;
     }
 
 -- DownloadInProgress with everything sent: load the next entry and go to Established, or end.
@@ -102,6 +104,7 @@ withUpload j n =
       «pending_read» = j .«pending_read»;
       uploaded = n;
       delivered = j .delivered;
+      mode = j .mode;
     }
 
 abbrev pub withBytes : SdoClientConnection → ℕ → SdoClientConnection

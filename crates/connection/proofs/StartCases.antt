@@ -21,7 +21,7 @@ use Rattle.connection.specs.Start.{
   started,
   writeJob,
 }
-use Rattle.connection.specs.Types.{Taken, Now, Refusal, SdoClientConnection}
+use Rattle.connection.specs.Types.{Taken, Mode, Now, Refusal, SdoClientConnection}
 
 -- an answer and the room that goes with it
 abbrev pub Leaves : Taken → Bytes → Taken → Bytes → Bytes → Type 0
@@ -39,40 +39,40 @@ module _ (bytes room : Bytes) where
   pub put-whole : (after : Bytes) → length bytes ≤ length room → after ≡ putBuffer room 0 bytes → after ≡ placed room 0 bytes
   put-whole after h e = e ∙ put-fits room bytes 0 (omega arith)
 
-module _ (c : SdoClientConnection) (t : ℕ) (n : Now) (index sub : ℕ) (bytes room : Bytes) (idle : Bool) (ei : idle ≡ isIdle (c .state)) where
-  pub write-busy : idle ≡ false → Leaves (Taken.Refused Refusal.Busy) room (startWrite c t n index sub bytes room) bytes room
+module _ (c : SdoClientConnection) (t : ℕ) (n : Now) (mode : Mode) (index sub : ℕ) (bytes room : Bytes) (idle : Bool) (ei : idle ≡ isIdle (c .state)) where
+  pub write-busy : idle ≡ false → Leaves (Taken.Refused Refusal.Busy) room (startWrite c t n mode index sub bytes room) bytes room
   unfolding startWrite
   write-busy b = refused-leaves bytes room Refusal.Busy _ (fails _ _ ei b refl)
 
   pub write-no-room : idle ≡ true → capacity room < 4 + length bytes
-      → Leaves (Taken.Refused Refusal.NoRoom) room (startWrite c t n index sub bytes room) bytes room
+      → Leaves (Taken.Refused Refusal.NoRoom) room (startWrite c t n mode index sub bytes room) bytes room
   unfolding startWrite
   write-no-room b h = refused-leaves bytes room Refusal.NoRoom _ (holds _ _ ei b (beyond _ _ _ _ h refl))
 
-  pub write-starts : (x : Taken) → idle ≡ true → 4 + length bytes ≤ capacity room → x ≡ started c t n (writeJob index sub bytes)
-      → x ≡ startWrite c t n index sub bytes room
+  pub write-starts : (x : Taken) → idle ≡ true → 4 + length bytes ≤ capacity room → x ≡ started c t n (writeJob mode index sub bytes)
+      → x ≡ startWrite c t n mode index sub bytes room
   unfolding startWrite
   write-starts x b h e = holds _ _ ei b (within _ _ _ _ h e)
 
-module _ (c : SdoClientConnection) (t : ℕ) (n : Now) (dcf room : Bytes) (idle : Bool) (ei : idle ≡ isIdle (c .state)) where
-  pub dcf-busy : idle ≡ false → Leaves (Taken.Refused Refusal.Busy) room (startDcf c t n dcf room) dcf room
+module _ (c : SdoClientConnection) (t : ℕ) (n : Now) (mode : Mode) (dcf room : Bytes) (idle : Bool) (ei : idle ≡ isIdle (c .state)) where
+  pub dcf-busy : idle ≡ false → Leaves (Taken.Refused Refusal.Busy) room (startDcf c t n mode dcf room) dcf room
   unfolding startDcf
   dcf-busy b = refused-leaves dcf room Refusal.Busy _ (fails _ _ ei b refl)
 
   pub dcf-short : idle ≡ true → length dcf < 4
-      → Leaves (Taken.Refused Refusal.DcfTooShort) room (startDcf c t n dcf room) dcf room
+      → Leaves (Taken.Refused Refusal.DcfTooShort) room (startDcf c t n mode dcf room) dcf room
   unfolding startDcf
   dcf-short b h = refused-leaves dcf room Refusal.DcfTooShort _ (holds _ _ ei b (below _ _ _ _ h refl))
 
   pub dcf-no-room : idle ≡ true → 4 ≤ length dcf → capacity room < length dcf
-      → Leaves (Taken.Refused Refusal.NoRoom) room (startDcf c t n dcf room) dcf room
+      → Leaves (Taken.Refused Refusal.NoRoom) room (startDcf c t n mode dcf room) dcf room
   unfolding startDcf
   dcf-no-room b k h = refused-leaves dcf room Refusal.NoRoom _ (holds _ _ ei b (not-below _ _ _ _ k (beyond _ _ _ _ h refl)))
 
   pub dcf-starts : (x : Taken) → idle ≡ true → 4 ≤ length dcf → length dcf ≤ capacity room
       → x
       ≡ started c (dcfTransaction (dcfStep dcf (firstCursor dcf)) t) n
-      (dcfJob (dcfStep dcf (firstCursor dcf)) (length dcf) (firstCursor dcf))
-      → x ≡ startDcf c t n dcf room
+      (dcfJob mode (dcfStep dcf (firstCursor dcf)) (length dcf) (firstCursor dcf))
+      → x ≡ startDcf c t n mode dcf room
   unfolding startDcf
   dcf-starts x b k h e = holds _ _ ei b (not-below _ _ _ _ k (within _ _ _ _ h e))

@@ -12,7 +12,7 @@ use Rattle.codec.specs.Dcf.{dcfStep}
 use Rattle.con_rec.specs.Deadline.{latest}
 use Rattle.connection.proofs.DueView.{dueAt, timed}
 use Rattle.connection.specs.Start.{capacity, dcfJob, dcfTransaction, firstCursor, isIdle, readJob, startDcf, startRead, startWrite, started, startedAt, writeJob}
-use Rattle.connection.specs.Types.{Taken, Moment, Now, Refusal, SdoClientConnection as Connection, SdoJob}
+use Rattle.connection.specs.Types.{Taken, Mode, Moment, Now, Refusal, SdoClientConnection as Connection, SdoJob}
 
 -- ---- start: Busy, too short, no room for so many bytes, no deadline; or a job begins
 pub data StartView (c : Connection) (n : Now) (room : Bytes) (Short : Type 0) (size t : ℕ) (job : SdoJob) : Taken → Type 0 where
@@ -31,29 +31,29 @@ module _ (c : Connection) (n : Now) (room : Bytes) where
   begins Short size t job i s h =
       timed n (λ m. startedAt m c t n job) (StartView c n room Short size t job) (begun i s h) (late i s h)
 
-  pub write-view : (t index sub : ℕ) (bytes : Bytes)
-      → StartView c n room ⊥ (4 + length bytes) t (writeJob index sub bytes) (startWrite c t n index sub bytes room)
+  pub write-view : (t : ℕ) (mode : Mode) (index sub : ℕ) (bytes : Bytes)
+      → StartView c n room ⊥ (4 + length bytes) t (writeJob mode index sub bytes) (startWrite c t n mode index sub bytes room)
   unfolding startWrite
-  write-view t index sub bytes =
+  write-view t mode index sub bytes =
       decided P (isIdle (c .state)) _ _
       (λ i. decided P (leb (4 + length bytes) (capacity room)) _ _
-      (λ h. begins ⊥ (4 + length bytes) t (writeJob index sub bytes) i (λ z. z) (leb-true _ _ h)) (λ h. full i (λ z. z) (leb-false _ _ h)))
+      (λ h. begins ⊥ (4 + length bytes) t (writeJob mode index sub bytes) i (λ z. z) (leb-true _ _ h)) (λ h. full i (λ z. z) (leb-false _ _ h)))
       busy
     where
       P : Taken → Type 0
-      P = StartView c n room ⊥ (4 + length bytes) t (writeJob index sub bytes)
+      P = StartView c n room ⊥ (4 + length bytes) t (writeJob mode index sub bytes)
 
-  pub read-view : (t index sub : ℕ) → StartView c n room ⊥ 0 t (readJob index sub) (startRead c t n index sub)
+  pub read-view : (t : ℕ) (mode : Mode) (index sub : ℕ) → StartView c n room ⊥ 0 t (readJob mode index sub) (startRead c t n mode index sub)
   unfolding startRead
-  read-view t index sub =
-      decided (StartView c n room ⊥ 0 t (readJob index sub)) (isIdle (c .state)) _ _
-      (λ i. begins ⊥ 0 t (readJob index sub) i (λ z. z) (omega arith)) busy
+  read-view t mode index sub =
+      decided (StartView c n room ⊥ 0 t (readJob mode index sub)) (isIdle (c .state)) _ _
+      (λ i. begins ⊥ 0 t (readJob mode index sub) i (λ z. z) (omega arith)) busy
 
-  pub dcf-view : (t : ℕ) (dcf : Bytes)
+  pub dcf-view : (t : ℕ) (mode : Mode) (dcf : Bytes)
       → StartView c n room (length dcf < 4) (length dcf) (dcfTransaction (dcfStep dcf (firstCursor dcf)) t)
-      (dcfJob (dcfStep dcf (firstCursor dcf)) (length dcf) (firstCursor dcf)) (startDcf c t n dcf room)
+      (dcfJob mode (dcfStep dcf (firstCursor dcf)) (length dcf) (firstCursor dcf)) (startDcf c t n mode dcf room)
   unfolding startDcf
-  dcf-view t dcf =
+  dcf-view t mode dcf =
       decided P (isIdle (c .state)) _ _
       (λ i. decided P (ltb (length dcf) 4) _ _ (λ s. short i (ltb-true _ _ s))
       (λ s. decided P (leb (length dcf) (capacity room)) _ _
@@ -64,7 +64,7 @@ module _ (c : Connection) (n : Now) (room : Bytes) where
       P : Taken → Type 0
       P =
           StartView c n room (length dcf < 4) (length dcf) (dcfTransaction (dcfStep dcf (firstCursor dcf)) t)
-          (dcfJob (dcfStep dcf (firstCursor dcf)) (length dcf) (firstCursor dcf))
+          (dcfJob mode (dcfStep dcf (firstCursor dcf)) (length dcf) (firstCursor dcf))
 
       long : 4 ≤ length dcf → length dcf < 4 → ⊥
       long h z = omega arith

@@ -40,6 +40,7 @@ withOffset j sent =
       «pending_read» = j .«pending_read»;
       uploaded = j .uploaded;
       delivered = j .delivered;
+      mode = j .mode;
     }
 
 abbrev pub waitingFor : Outgoing → ℕ → ℕ → Waiting

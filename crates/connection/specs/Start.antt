@@ -1,5 +1,6 @@
 -- Starts (document 01, "The connection"): a start sets Opening, send 0, last received 63, and deadline and retries. A DCF start loads the
 -- first entry if readable; each load adds 1 to the transaction. Refusals 4, 5, 7, 8, in this order. A start on Closed acts as on new.
+-- The mode that the start chooses is its job's (document 02, CR 2).
 -- Job bytes are the whole DCF, or a write's data plus its 4 head bytes; they lie at the start of the room.
 use Prim.Native.Nat.{ℕ, _+_, min}
 use mathlib.Core.Bool.{Bool, true, false}
@@ -16,6 +17,7 @@ use Rattle.connection.specs.Types.{
   DcfCursor,
   DcfStep,
   LoadedTransfer,
+  Mode,
   Moment,
   Now,
   Outcome,
@@ -41,8 +43,8 @@ isIdle SdoClientConnectionState.Closed = true
 abbrev pub capacity : Bytes → ℕ
 capacity room = min (length room) 4294967295
 
-abbrev pub jobWith : ℕ → DcfCursor → LoadedTransfer → PendingRead → SdoJob
-jobWith size cursor loaded read =
+abbrev pub jobWith : Mode → ℕ → DcfCursor → LoadedTransfer → PendingRead → SdoJob
+jobWith mode size cursor loaded read =
     record {
       size = size;
       cursor = cursor;
@@ -51,28 +53,29 @@ jobWith size cursor loaded read =
       «pending_read» = read;
       uploaded = 0;
       delivered = 0;
+      mode = mode;
     }
 
-abbrev pub writeJob : ℕ → ℕ → Bytes → SdoJob
-writeJob index sub bytes =
-    jobWith (length bytes) (record { at = 0; left = 0 })
+abbrev pub writeJob : Mode → ℕ → ℕ → Bytes → SdoJob
+writeJob mode index sub bytes =
+    jobWith mode (length bytes) (record { at = 0; left = 0 })
     (LoadedTransfer.Loaded (record { index = index; «sub_index» = sub; start = 0; len = length bytes }))
     PendingRead.NoRead
 
-abbrev pub readJob : ℕ → ℕ → SdoJob
-readJob index sub = jobWith 0 (record { at = 0; left = 0 }) LoadedTransfer.Unloaded (PendingRead.Read index sub)
+abbrev pub readJob : Mode → ℕ → ℕ → SdoJob
+readJob mode index sub = jobWith mode 0 (record { at = 0; left = 0 }) LoadedTransfer.Unloaded (PendingRead.Read index sub)
 
 -- a DCF's job by what its first step finds
 abbrev pub firstCursor : Bytes → DcfCursor
 firstCursor dcf = record { at = 4; left = countOf dcf }
 
-abbrev pub dcfJob : DcfStep → ℕ → DcfCursor → SdoJob
-dcfJob (DcfStep.Entry index sub start len next) size first =
-    jobWith size next
+abbrev pub dcfJob : Mode → DcfStep → ℕ → DcfCursor → SdoJob
+dcfJob mode (DcfStep.Entry index sub start len next) size first =
+    jobWith mode size next
     (LoadedTransfer.Loaded (record { index = index; «sub_index» = sub; start = start; len = len }))
     PendingRead.NoRead
-dcfJob DcfStep.End size first = jobWith size first LoadedTransfer.Unloaded PendingRead.NoRead
-dcfJob DcfStep.Unreadable size first = jobWith size first LoadedTransfer.Unloaded PendingRead.NoRead
+dcfJob mode DcfStep.End size first = jobWith mode size first LoadedTransfer.Unloaded PendingRead.NoRead
+dcfJob mode DcfStep.Unreadable size first = jobWith mode size first LoadedTransfer.Unloaded PendingRead.NoRead
 
 abbrev pub dcfTransaction : DcfStep → ℕ → ℕ
 dcfTransaction (DcfStep.Entry index sub start len next) t = nextTransaction t
@@ -91,22 +94,22 @@ startedAt (Moment.At deadline) c t n job =
 unfoldable pub started : SdoClientConnection → ℕ → Now → SdoJob → Taken
 started c t n job = startedAt (deadlineOf (n .time) (n .timeout)) c t n job
 
-unfoldable pub startRead : SdoClientConnection → ℕ → Now → ℕ → ℕ → Taken
-startRead c t n index sub =
-    pick (isIdle (c .state)) (started c t n (readJob index sub)) (Taken.Refused Refusal.Busy)
+unfoldable pub startRead : SdoClientConnection → ℕ → Now → Mode → ℕ → ℕ → Taken
+startRead c t n mode index sub =
+    pick (isIdle (c .state)) (started c t n (readJob mode index sub)) (Taken.Refused Refusal.Busy)
 
-unfoldable pub startWrite : SdoClientConnection → ℕ → Now → ℕ → ℕ → Bytes → Bytes → Taken
-startWrite c t n index sub bytes room =
+unfoldable pub startWrite : SdoClientConnection → ℕ → Now → Mode → ℕ → ℕ → Bytes → Bytes → Taken
+startWrite c t n mode index sub bytes room =
     pick (isIdle (c .state))
-    (pick (leb (4 + length bytes) (capacity room)) (started c t n (writeJob index sub bytes)) (Taken.Refused Refusal.NoRoom))
+    (pick (leb (4 + length bytes) (capacity room)) (started c t n (writeJob mode index sub bytes)) (Taken.Refused Refusal.NoRoom))
     (Taken.Refused Refusal.Busy)
 
-unfoldable pub startDcf : SdoClientConnection → ℕ → Now → Bytes → Bytes → Taken
-startDcf c t n dcf room =
+unfoldable pub startDcf : SdoClientConnection → ℕ → Now → Mode → Bytes → Bytes → Taken
+startDcf c t n mode dcf room =
     pick (isIdle (c .state))
     (pick (ltb (length dcf) 4) (Taken.Refused Refusal.DcfTooShort)
     (pick (leb (length dcf) (capacity room))
-    (started c (dcfTransaction (dcfStep dcf (firstCursor dcf)) t) n (dcfJob (dcfStep dcf (firstCursor dcf)) (length dcf) (firstCursor dcf)))
+    (started c (dcfTransaction (dcfStep dcf (firstCursor dcf)) t) n (dcfJob mode (dcfStep dcf (firstCursor dcf)) (length dcf) (firstCursor dcf)))
     (Taken.Refused Refusal.NoRoom)))
     (Taken.Refused Refusal.Busy)
 

@@ -11,6 +11,7 @@ pub use Rattle.codec.specs.declared.sequence.SequenceLayerHeader.{SequenceLayer
 pub use Rattle.con_rec.specs.declared.Taken.{Taken}
 pub use Rattle.con_rec.specs.declared.Deadline.{Deadline}
 pub use Rattle.con_rec.specs.declared.LoadedTransfer.{LoadedTransfer}
+pub use Rattle.con_rec.specs.declared.Mode.{Mode}
 pub use Rattle.con_rec.specs.declared.Moment.{Moment}
 pub use Rattle.con_rec.specs.declared.Now.{Now}
 pub use Rattle.con_rec.specs.declared.Outcome.{Outcome}

@@ -23,6 +23,7 @@ use codec::octets::put;
 use codec::refusal::Refusal;
 use con_rec::Deadline;
 use con_rec::LoadedTransfer;
+use con_rec::Mode;
 use con_rec::Moment;
 use con_rec::Now;
 use con_rec::Outcome;
@@ -59,8 +60,14 @@ fn capacity_of(n: usize) -> usize
     if n < 4294967295 { n } else { 4294967295 }
 }
 
-fn job_with(size: usize, cursor: DcfCursor, loaded: LoadedTransfer, read: PendingRead) -> SdoJob
-    ensures { λ r. ⌜ r ≡ jobWith size cursor loaded read ⌝ }
+fn job_with(
+    mode: Mode,
+    size: usize,
+    cursor: DcfCursor,
+    loaded: LoadedTransfer,
+    read: PendingRead,
+) -> SdoJob
+    ensures { λ r. ⌜ r ≡ jobWith mode size cursor loaded read ⌝ }
 {
     SdoJob {
         size,
@@ -70,6 +77,7 @@ fn job_with(size: usize, cursor: DcfCursor, loaded: LoadedTransfer, read: Pendin
         pending_read: read,
         uploaded: 0,
         delivered: 0,
+        mode,
     }
 }
 
@@ -100,8 +108,8 @@ fn started(c: SdoClientConnection, tid: u8, n: Now, job: SdoJob) -> Taken
 }
 
 // A DCF's job: the first entry loaded, if it is readable.
-fn dcf_job(d: DcfStep, size: usize, first: DcfCursor) -> SdoJob
-    ensures { λ r. ⌜ r ≡ dcfJob d size first ⌝ }
+fn dcf_job(mode: Mode, d: DcfStep, size: usize, first: DcfCursor) -> SdoJob
+    ensures { λ r. ⌜ r ≡ dcfJob mode d size first ⌝ }
 {
     let DcfStep::Entry {
         index,
@@ -111,7 +119,13 @@ fn dcf_job(d: DcfStep, size: usize, first: DcfCursor) -> SdoJob
         next,
     } = d
     else {
-        return job_with(size, first, LoadedTransfer::Unloaded, PendingRead::NoRead);
+        return job_with(
+            mode,
+            size,
+            first,
+            LoadedTransfer::Unloaded,
+            PendingRead::NoRead,
+        );
     };
     let loaded = LoadedTransfer::Loaded(Transfer {
         index,
@@ -119,7 +133,7 @@ fn dcf_job(d: DcfStep, size: usize, first: DcfCursor) -> SdoJob
         start,
         len,
     });
-    job_with(size, next, loaded, PendingRead::NoRead)
+    job_with(mode, size, next, loaded, PendingRead::NoRead)
 }
 
 // The load of the first entry steps the transaction.
@@ -153,17 +167,19 @@ fn keep_bytes(answer: Taken, bytes: &[u8], room: &mut [u8])
 // Starts a job that reads an object. 4 where a job is running, 8 where the deadline does not fit.
 pub fn start_read_job(
     c: SdoClientConnection,
+    mode: Mode,
     index: u16,
     sub_index: u8,
     tid: u8,
     when: Now,
 ) -> Taken
-    ensures { λ r. ⌜ r ≡ startRead c tid «when» index «sub_index» ⌝ }
+    ensures { λ r. ⌜ r ≡ startRead c tid «when» mode index «sub_index» ⌝ }
 {
     let state = c.state;
     if is_idle(state) {
         let read = PendingRead::Read { index, sub_index };
         let job = job_with(
+            mode,
             0,
             DcfCursor { at: 0, left: 0 },
             LoadedTransfer::Unloaded,
@@ -178,6 +194,7 @@ pub fn start_read_job(
 // the deadline does not fit; then the room is as it was.
 pub fn start_write_job(
     c: SdoClientConnection,
+    mode: Mode,
     index: u16,
     sub_index: u8,
     bytes: &[u8],
@@ -185,8 +202,8 @@ pub fn start_write_job(
     when: Now,
     room: &mut [u8],
 ) -> Taken
-    ensures { λ r. ⌜ r ≡ startWrite c tid «when» index «sub_index» (now (bytes .entry)) (now (room .entry)) ⌝ }
-    ensures { λ _. ⌜ now (room .exit) ≡ roomWith (startWrite c tid «when» index «sub_index» (now (bytes .entry)) (now (room .entry))) (now (bytes .entry)) (now (room .entry)) ⌝ }
+    ensures { λ r. ⌜ r ≡ startWrite c tid «when» mode index «sub_index» (now (bytes .entry)) (now (room .entry)) ⌝ }
+    ensures { λ _. ⌜ now (room .exit) ≡ roomWith (startWrite c tid «when» mode index «sub_index» (now (bytes .entry)) (now (room .entry))) (now (bytes .entry)) (now (room .entry)) ⌝ }
 {
     let state = c.state;
     if is_idle(state) {
@@ -205,6 +222,7 @@ pub fn start_write_job(
             len: size as u32,
         });
         let job = job_with(
+            mode,
             size,
             DcfCursor { at: 0, left: 0 },
             loaded,
@@ -221,13 +239,14 @@ pub fn start_write_job(
 // deadline does not fit; then the room is as it was.
 pub fn start_concise_dcf_job(
     c: SdoClientConnection,
+    mode: Mode,
     dcf: &[u8],
     tid: u8,
     when: Now,
     room: &mut [u8],
 ) -> Taken
-    ensures { λ r. ⌜ r ≡ startDcf c tid «when» (now (dcf .entry)) (now (room .entry)) ⌝ }
-    ensures { λ _. ⌜ now (room .exit) ≡ roomWith (startDcf c tid «when» (now (dcf .entry)) (now (room .entry))) (now (dcf .entry)) (now (room .entry)) ⌝ }
+    ensures { λ r. ⌜ r ≡ startDcf c tid «when» mode (now (dcf .entry)) (now (room .entry)) ⌝ }
+    ensures { λ _. ⌜ now (room .exit) ≡ roomWith (startDcf c tid «when» mode (now (dcf .entry)) (now (room .entry))) (now (dcf .entry)) (now (room .entry)) ⌝ }
 {
     let state = c.state;
     if is_idle(state) {
@@ -239,7 +258,7 @@ pub fn start_concise_dcf_job(
         }
         let first = DcfCursor { at: 4, left: count };
         let step = dcf_step(dcf, first);
-        let job = dcf_job(step, dcf.len(), first);
+        let job = dcf_job(mode, step, dcf.len(), first);
         let answer = started(c, dcf_transaction(step, tid), when, job);
         keep_bytes(answer, dcf, room);
         return answer;

@@ -8,31 +8,48 @@ ghost use Rattle.man_lent.specs.Lent.{keptOf};
 use codec::command::SdoCommand;
 use codec::sequence::SequenceLayerHeader;
 use con_rec::Deadline;
+use con_rec::Mode;
 use con_rec::Now;
 use man_lent::types::Kept;
 use man_table::types::SdoClientManager;
 use man_table::types::Turn;
 
-pub(crate) fn load(m: SdoClientManager, target: u8, dcf: &[u8], when: Now, store: &mut [u8]) -> Kept
-    ensures { λ r. ⌜ (r ≡ keptOf (called m (now (store .entry)) [] (starts target (loads (now (dcf .entry))) «when») .done)) × (now (store .exit) ≡ called m (now (store .entry)) [] (starts target (loads (now (dcf .entry))) «when») .store) ⌝ }
+pub(crate) fn load(
+    m: SdoClientManager,
+    target: u8,
+    mode: Mode,
+    dcf: &[u8],
+    when: Now,
+    store: &mut [u8],
+) -> Kept
+    ensures { λ r. ⌜ (r ≡ keptOf (called m (now (store .entry)) [] (starts target (loads mode (now (dcf .entry))) «when») .done)) × (now (store .exit) ≡ called m (now (store .entry)) [] (starts target (loads mode (now (dcf .entry))) «when») .store) ⌝ }
 {
     let mut manager = m;
-    let told = man_lent::start_configuration_download(&mut manager, target, dcf, when, store);
+    let told = man_lent::start_configuration_download(&mut manager, target, mode, dcf, when, store);
     Kept { manager, told }
 }
 
 pub(crate) fn read(
     m: SdoClientManager,
     target: u8,
+    mode: Mode,
     index: u16,
     sub_index: u8,
     when: Now,
     store: &[u8],
 ) -> Kept
-    ensures { λ r. ⌜ r ≡ keptOf (called m (now (store .entry)) [] (starts target (reads index «sub_index») «when») .done) ⌝ }
+    ensures { λ r. ⌜ r ≡ keptOf (called m (now (store .entry)) [] (starts target (reads mode index «sub_index») «when») .done) ⌝ }
 {
     let mut manager = m;
-    let told = man_lent::read_object_by_index(&mut manager, target, index, sub_index, when, store);
+    let told = man_lent::read_object_by_index(
+        &mut manager,
+        target,
+        mode,
+        index,
+        sub_index,
+        when,
+        store,
+    );
     Kept { manager, told }
 }
 

@@ -4,10 +4,11 @@
 //
 // WARNING. The flag bits of a command are the repository's (response 0x10, abort 0x20, segmentation x 64), not those of EPSG DS 301
 // (0x80, 0x40, x 16). A node that follows EPSG DS 301 aborts with flags C0; the client reads these as Complete without the abort mark, so that
-// a write which the node refused ends Complete. docs/DIFFERENCES.md says what a host at such a node has to do. The cell here has the
+// a write which the node refused ends Complete, in published mode too. docs/DIFFERENCES.md says what a host at such a node has to do. The cell here has the
 // repository's bits.
 use codec::octets::part;
 use con_rec::Deadline;
+use con_rec::Mode;
 use con_rec::Now;
 use con_rec::Parameter;
 use man_lent::types::Kept;
@@ -16,6 +17,9 @@ use man_table::types::SdoClientManager;
 use manager::types::Answer;
 use manager::types::OUTPUT_SIZE;
 use manager::types::SentTo;
+
+// Count, index, sub-index and size, and the table.
+const TABLE_SIZE: usize = 1461;
 
 mod cell;
 mod loan;
@@ -38,6 +42,15 @@ fn at(time: u64) -> Now {
     }
 }
 
+// The mode of a node's jobs, which each start chooses. A panel knows from its list of transmitters which of them need the published one: those whose
+// stack drops a Complete that follows an Expedited, so that in repository mode a transfer of 1,453 to 1,456 bytes never loads. Here node 6 is one.
+fn mode_of(node: u8) -> Mode {
+    match node {
+        6 => Mode::Published,
+        _ => Mode::Repository,
+    }
+}
+
 // A job is started: its DCF is copied into the store, and nothing goes out yet.
 fn start(
     m: SdoClientManager,
@@ -47,7 +60,7 @@ fn start(
     store: &mut [u8; STORE_SIZE],
 ) -> SdoClientManager {
     let none = [0u8; 0];
-    let kept = loan::load(m, node, dcf, at(time), store);
+    let kept = loan::load(m, node, mode_of(node), dcf, at(time), store);
     let told = kept.told;
     print::told(told, &none);
     kept.manager
@@ -63,7 +76,7 @@ fn start_read(
     store: &[u8; STORE_SIZE],
 ) -> SdoClientManager {
     let none = [0u8; 0];
-    let kept = loan::read(m, node, index, sub_index, at(time), store);
+    let kept = loan::read(m, node, mode_of(node), index, sub_index, at(time), store);
     let told = kept.told;
     print::told(told, &none);
     kept.manager
@@ -148,9 +161,10 @@ fn later(
     kept.manager
 }
 
-// A load: a job is started, and then there are as many turns as an opening and two entries take.
+// A load: a job is started, and then there are as many turns as an opening and two commands take.
 fn load(
     h: Host,
+    node: u8,
     dcf: &[u8],
     time: u64,
     store: &mut [u8; STORE_SIZE],
@@ -159,7 +173,7 @@ fn load(
     let manager = h.manager;
     let cell = h.cell;
     let started = Host {
-        manager: start(manager, 5, dcf, time, store),
+        manager: start(manager, node, dcf, time, store),
         cell,
         answer: Answer::Nothing,
     };
@@ -216,8 +230,25 @@ fn silent(
     later(aborted, store, output);
 }
 
-// Document 01's P7, two entries, and the first read back; and P8, its last byte dropped: the second entry is not readable, and the job ends Cut
-// with the one that was delivered.
+// A DCF with a table of 1,450 bytes for 2100:01: it is sent as 1,454 bytes.
+fn table() -> [u8; TABLE_SIZE] {
+    let mut dcf = [7u8; TABLE_SIZE];
+    dcf[0] = 1;
+    dcf[1] = 0;
+    dcf[2] = 0;
+    dcf[3] = 0;
+    dcf[4] = 0x00;
+    dcf[5] = 0x21;
+    dcf[6] = 0x01;
+    dcf[7] = 0xAA;
+    dcf[8] = 0x05;
+    dcf[9] = 0;
+    dcf[10] = 0;
+    dcf
+}
+
+// Document 01's P7, two entries, and the first read back; P8, its last byte dropped: the second entry is not readable, and the job ends Cut
+// with the one that was delivered; and a table that straddles 1,452, at a node in published mode: it goes out as Initiate and Complete.
 fn main() {
     let mut store = [0u8; STORE_SIZE];
     let mut output = [0u8; OUTPUT_SIZE];
@@ -228,7 +259,7 @@ fn main() {
         answer: Answer::Nothing,
     };
     console::text(b"node 5, a DCF of two entries\n");
-    let whole = load(new, dcf, 0, &mut store, &mut output);
+    let whole = load(new, 5, dcf, 0, &mut store, &mut output);
     let loaded = whole.cell;
     print::objects(loaded);
     console::text(b"node 5, a read of 2100:01\n");
@@ -236,12 +267,15 @@ fn main() {
     console::text(b"node 5, the same DCF without its last byte\n");
     let cut = load(
         read_back,
+        5,
         part(dcf, 0, 19),
         1000000,
         &mut store,
         &mut output,
     );
-    let manager = cut.manager;
+    console::text(b"node 6, a table of 1,450 bytes, in published mode\n");
+    let straddled = load(cut, 6, &table(), 1500000, &mut store, &mut output);
+    let manager = straddled.manager;
     console::text(b"node 7, which does not answer\n");
     silent(manager, dcf, 2000000, &mut store, &mut output);
 }

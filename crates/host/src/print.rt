@@ -8,6 +8,7 @@ use codec::sequence::SequenceLayerHeader;
 use con_rec::Deadline;
 use con_rec::End;
 use con_rec::Reason;
+use con_rec::numbers::at_most;
 use console::hex;
 use console::number;
 use console::octets;
@@ -17,7 +18,10 @@ use man_lent::types::Told;
 use man_table::types::Ends;
 use manager::types::Answer;
 
-// A frame on a line: where it goes, and its bytes, sequence header and command.
+// How much of a payload is shown.
+const MOST_SHOWN: usize = 16;
+
+// A frame on a line: where it goes, and its bytes, sequence header and command; of a long payload its first bytes, and how many it has.
 pub(crate) fn frame(
     way: &[u8],
     node: u8,
@@ -28,7 +32,13 @@ pub(crate) fn frame(
     text(way);
     small(node);
     text(b" ");
-    console::frame(sequence, command, payload);
+    let shown = at_most(payload.len(), MOST_SHOWN);
+    console::frame(sequence, command, part(payload, 0, shown));
+    if shown < payload.len() {
+        text(b" .. ");
+        number(payload.len() as u64);
+        text(b" bytes");
+    }
     text(b"\n");
 }
 

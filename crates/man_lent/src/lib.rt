@@ -12,6 +12,7 @@ use crate::types::Told;
 use codec::command::SdoCommand;
 use codec::sequence::SequenceLayerHeader;
 use con_rec::Deadline;
+use con_rec::Mode;
 use con_rec::Now;
 use man_table::types::SdoClientManager;
 use man_table::types::Turn;
@@ -24,13 +25,14 @@ pub(crate) mod value;
 pub fn start_configuration_download(
     m: &mut SdoClientManager,
     target: u8,
+    mode: Mode,
     dcf: &[u8],
     when: Now,
     store: &mut [u8],
 ) -> Told
-    ensures { λ r. ⌜ ((r ≡ toldOf (called (now (m .entry)) (now (store .entry)) [] (starts target (loads (now (dcf .entry))) «when») .done)) × (now (m .exit) ≡ called (now (m .entry)) (now (store .entry)) [] (starts target (loads (now (dcf .entry))) «when») .done .manager)) × (now (store .exit) ≡ called (now (m .entry)) (now (store .entry)) [] (starts target (loads (now (dcf .entry))) «when») .store) ⌝ }
+    ensures { λ r. ⌜ ((r ≡ toldOf (called (now (m .entry)) (now (store .entry)) [] (starts target (loads mode (now (dcf .entry))) «when») .done)) × (now (m .exit) ≡ called (now (m .entry)) (now (store .entry)) [] (starts target (loads mode (now (dcf .entry))) «when») .done .manager)) × (now (store .exit) ≡ called (now (m .entry)) (now (store .entry)) [] (starts target (loads mode (now (dcf .entry))) «when») .store) ⌝ }
 {
-    let a = crate::value::loading(*m, target, dcf, when, store);
+    let a = crate::value::loading(*m, target, mode, dcf, when, store);
     *m = a.manager;
     a.told
 }
@@ -39,15 +41,16 @@ pub fn start_configuration_download(
 pub fn write_object_by_index(
     m: &mut SdoClientManager,
     target: u8,
+    mode: Mode,
     index: u16,
     sub_index: u8,
     bytes: &[u8],
     when: Now,
     store: &mut [u8],
 ) -> Told
-    ensures { λ r. ⌜ ((r ≡ toldOf (called (now (m .entry)) (now (store .entry)) [] (starts target (writes index «sub_index» (now (bytes .entry))) «when») .done)) × (now (m .exit) ≡ called (now (m .entry)) (now (store .entry)) [] (starts target (writes index «sub_index» (now (bytes .entry))) «when») .done .manager)) × (now (store .exit) ≡ called (now (m .entry)) (now (store .entry)) [] (starts target (writes index «sub_index» (now (bytes .entry))) «when») .store) ⌝ }
+    ensures { λ r. ⌜ ((r ≡ toldOf (called (now (m .entry)) (now (store .entry)) [] (starts target (writes mode index «sub_index» (now (bytes .entry))) «when») .done)) × (now (m .exit) ≡ called (now (m .entry)) (now (store .entry)) [] (starts target (writes mode index «sub_index» (now (bytes .entry))) «when») .done .manager)) × (now (store .exit) ≡ called (now (m .entry)) (now (store .entry)) [] (starts target (writes mode index «sub_index» (now (bytes .entry))) «when») .store) ⌝ }
 {
-    let a = crate::value::writing(*m, target, index, sub_index, bytes, when, store);
+    let a = crate::value::writing(*m, target, mode, index, sub_index, bytes, when, store);
     *m = a.manager;
     a.told
 }
@@ -56,14 +59,15 @@ pub fn write_object_by_index(
 pub fn read_object_by_index(
     m: &mut SdoClientManager,
     target: u8,
+    mode: Mode,
     index: u16,
     sub_index: u8,
     when: Now,
     store: &[u8],
 ) -> Told
-    ensures { λ r. ⌜ (r ≡ toldOf (called (now (m .entry)) (now (store .entry)) [] (starts target (reads index «sub_index») «when») .done)) × (now (m .exit) ≡ called (now (m .entry)) (now (store .entry)) [] (starts target (reads index «sub_index») «when») .done .manager) ⌝ }
+    ensures { λ r. ⌜ (r ≡ toldOf (called (now (m .entry)) (now (store .entry)) [] (starts target (reads mode index «sub_index») «when») .done)) × (now (m .exit) ≡ called (now (m .entry)) (now (store .entry)) [] (starts target (reads mode index «sub_index») «when») .done .manager) ⌝ }
 {
-    let a = crate::value::reading(*m, target, index, sub_index, when, store);
+    let a = crate::value::reading(*m, target, mode, index, sub_index, when, store);
     *m = a.manager;
     a.told
 }

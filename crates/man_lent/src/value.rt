@@ -10,6 +10,7 @@ use crate::types::Told;
 use codec::command::SdoCommand;
 use codec::sequence::SequenceLayerHeader;
 use con_rec::Deadline;
+use con_rec::Mode;
 use con_rec::Now;
 use man_table::types::SdoClientManager;
 use man_table::types::Turn;
@@ -37,40 +38,43 @@ fn kept_of(d: Done) -> Kept
 pub(crate) fn loading(
     m: SdoClientManager,
     target: u8,
+    mode: Mode,
     dcf: &[u8],
     when: Now,
     store: &mut [u8],
 ) -> Kept
-    ensures { λ r. ⌜ (r ≡ keptOf (called m (now (store .entry)) [] (starts target (loads (now (dcf .entry))) «when») .done)) × (now (store .exit) ≡ called m (now (store .entry)) [] (starts target (loads (now (dcf .entry))) «when») .store) ⌝ }
+    ensures { λ r. ⌜ (r ≡ keptOf (called m (now (store .entry)) [] (starts target (loads mode (now (dcf .entry))) «when») .done)) × (now (store .exit) ≡ called m (now (store .entry)) [] (starts target (loads mode (now (dcf .entry))) «when») .store) ⌝ }
 {
-    kept_of(start_configuration_download(m, target, dcf, when, store))
+    kept_of(start_configuration_download(m, target, mode, dcf, when, store))
 }
 
 pub(crate) fn writing(
     m: SdoClientManager,
     target: u8,
+    mode: Mode,
     index: u16,
     sub_index: u8,
     bytes: &[u8],
     when: Now,
     store: &mut [u8],
 ) -> Kept
-    ensures { λ r. ⌜ (r ≡ keptOf (called m (now (store .entry)) [] (starts target (writes index «sub_index» (now (bytes .entry))) «when») .done)) × (now (store .exit) ≡ called m (now (store .entry)) [] (starts target (writes index «sub_index» (now (bytes .entry))) «when») .store) ⌝ }
+    ensures { λ r. ⌜ (r ≡ keptOf (called m (now (store .entry)) [] (starts target (writes mode index «sub_index» (now (bytes .entry))) «when») .done)) × (now (store .exit) ≡ called m (now (store .entry)) [] (starts target (writes mode index «sub_index» (now (bytes .entry))) «when») .store) ⌝ }
 {
-    kept_of(write_object_by_index(m, target, index, sub_index, bytes, when, store))
+    kept_of(write_object_by_index(m, target, mode, index, sub_index, bytes, when, store))
 }
 
 pub(crate) fn reading(
     m: SdoClientManager,
     target: u8,
+    mode: Mode,
     index: u16,
     sub_index: u8,
     when: Now,
     store: &[u8],
 ) -> Kept
-    ensures { λ r. ⌜ r ≡ keptOf (called m (now (store .entry)) [] (starts target (reads index «sub_index») «when») .done) ⌝ }
+    ensures { λ r. ⌜ r ≡ keptOf (called m (now (store .entry)) [] (starts target (reads mode index «sub_index») «when») .done) ⌝ }
 {
-    kept_of(read_object_by_index(m, target, index, sub_index, when, store))
+    kept_of(read_object_by_index(m, target, mode, index, sub_index, when, store))
 }
 
 pub(crate) fn replying(

@@ -11,7 +11,7 @@ use Rattle.connection.specs.Start.{roomWith}
 use Rattle.con_reply.specs.Reply.{replied, roomAfter}
 use Rattle.manager.specs.Calls.{loads, repliedStore, roomIn, startedStore, withRoom, writes}
 use Rattle.man_table.specs.Table.{roomSize, roomStart, storeSize}
-use Rattle.manager.specs.Types.{Taken, Decision, SdoClientConnection}
+use Rattle.manager.specs.Types.{Taken, Decision, Mode, SdoClientConnection}
 
 -- the part that is lent, from its start to 4,096 bytes further
 pub lent-room : (store : Bytes) (c : SdoClientConnection) (a : ℕ) → a ≡ roomStart c → take (a + 4096 - a) (drop a store) ≡ roomIn store c
@@ -41,14 +41,14 @@ module _ (store : Bytes) (long : length store ≡ storeSize) (c : SdoClientConne
       ∙ ap (λ (l : Bytes). take (roomStart c) store ++ l) (take-append-drop roomSize (drop (roomStart c) store))
       ∙ take-append-drop (roomStart c) store
 
-  pub write-stored : (index sub : ℕ) (bytes : Bytes) (a : Taken)
-      → withRoom store c (roomWith a bytes (roomIn store c)) ≡ startedStore a (writes index sub bytes) c store
-  write-stored index sub bytes (Taken.Connection d) = refl
-  write-stored index sub bytes (Taken.Refused r) = put-back
+  pub write-stored : (mode : Mode) (index sub : ℕ) (bytes : Bytes) (a : Taken)
+      → withRoom store c (roomWith a bytes (roomIn store c)) ≡ startedStore a (writes mode index sub bytes) c store
+  write-stored mode index sub bytes (Taken.Connection d) = refl
+  write-stored mode index sub bytes (Taken.Refused r) = put-back
 
-  pub dcf-stored : (dcf : Bytes) (a : Taken) → withRoom store c (roomWith a dcf (roomIn store c)) ≡ startedStore a (loads dcf) c store
-  dcf-stored dcf (Taken.Connection d) = refl
-  dcf-stored dcf (Taken.Refused r) = put-back
+  pub dcf-stored : (mode : Mode) (dcf : Bytes) (a : Taken) → withRoom store c (roomWith a dcf (roomIn store c)) ≡ startedStore a (loads mode dcf) c store
+  dcf-stored mode dcf (Taken.Connection d) = refl
+  dcf-stored mode dcf (Taken.Refused r) = put-back
 
   pub reply-stored : (payload : Bytes) (x : Decision)
       → withRoom store c (roomAfter x payload (roomIn store c))

@@ -13,7 +13,7 @@ use Rattle.manager.specs.Calls.{Effect, Job, numberOf, reads, roomIn, se
 use Rattle.laws.proofs.Choices.{decided}
 use Rattle.manager.proofs.LentRoom.{put-back}
 use Rattle.manager.specs.Change.{same}
-use Rattle.manager.specs.Types.{Answer, Change, Taken, Entry, Now, Refusal, SdoClientConnection, SdoClientManager}
+use Rattle.manager.specs.Types.{Answer, Change, Taken, Entry, Mode, Now, Refusal, SdoClientConnection, SdoClientManager}
 
 module _ (t : Entry) (store : Bytes) (s : Taken) (e : s ≡ seatIn t (length store)) where
   pub seat-sized : (c : SdoClientConnection) → s ≡ Taken.Connection c → length store ≡ 32768
@@ -48,16 +48,16 @@ module _ (t : Entry) (store : Bytes) (s : Taken) (e : s ≡ seatIn t (length sto
         )
 
 -- a read puts nothing into the store
-pub read-keeps : (m : SdoClientManager) (node index sub : ℕ) (n : Now) (store : Bytes) → store ≡ startOf m node (reads index sub) n store .store
+pub read-keeps : (m : SdoClientManager) (node : ℕ) (mode : Mode) (index sub : ℕ) (n : Now) (store : Bytes) → store ≡ startOf m node (reads mode index sub) n store .store
 unfolding startOf seatIn
-read-keeps m node index sub n store =
-    decided (λ (s : Taken). store ≡ startAt s (targetOf m node) m (reads index sub) n store .store) (eqb (length store) storeSize) _ _
+read-keeps m node mode index sub n store =
+    decided (λ (s : Taken). store ≡ startAt s (targetOf m node) m (reads mode index sub) n store .store) (eqb (length store) storeSize) _ _
     (λ e. seated (eqb-true _ _ e) (seatOf (targetOf m node))) (λ e. refl)
   where
-    begun : length store ≡ storeSize → (c : SdoClientConnection) (a : Taken) → store ≡ startedStore a (reads index sub) c store
+    begun : length store ≡ storeSize → (c : SdoClientConnection) (a : Taken) → store ≡ startedStore a (reads mode index sub) c store
     begun long c (Taken.Connection d) = sym (put-back store long c)
     begun long c (Taken.Refused r) = refl
 
-    seated : length store ≡ storeSize → (s : Taken) → store ≡ startAt s (targetOf m node) m (reads index sub) n store .store
-    seated long (Taken.Connection c) = begun long c (startJob (reads index sub) c (numberOf m) n (roomIn store c))
+    seated : length store ≡ storeSize → (s : Taken) → store ≡ startAt s (targetOf m node) m (reads mode index sub) n store .store
+    seated long (Taken.Connection c) = begun long c (startJob (reads mode index sub) c (numberOf m) n (roomIn store c))
     seated long (Taken.Refused r) = refl

@@ -26,6 +26,7 @@ use Rattle.manager.specs.Types.{
   Done,
   Entry,
   Found,
+  Mode,
   Now,
   Outgoing,
   Refusal,
@@ -38,11 +39,17 @@ use Rattle.manager.specs.Types.{
 use Rattle.manager.specs.Value.{valueOf}
 use Rattle.man_table.specs.Walk.{Walking, refused, through, stopped, walkList}
 
--- the job that a start is for
+-- the job that a start is for, in the mode that the start chooses
 pub data Job : Type 0 where
-  writes : ℕ → ℕ → Bytes → Job
-  reads : ℕ → ℕ → Job
-  loads : Bytes → Job
+  writes : Mode → ℕ → ℕ → Bytes → Job
+  reads : Mode → ℕ → ℕ → Job
+  loads : Mode → Bytes → Job
+
+-- the mode of a job
+abbrev pub modeOf : Job → Mode
+modeOf (writes mode index sub bytes) = mode
+modeOf (reads mode index sub) = mode
+modeOf (loads mode dcf) = mode
 
 -- a call: a start of a job for a node; a tick or an ask; a reply from a node
 pub data Call : Type 0 where
@@ -76,14 +83,14 @@ refuses r store = record { change = same (Answer.Refused r); store = store }
 
 -- what the job makes of a connection, and its bytes at the start of the room
 abbrev pub startJob : Job → SdoClientConnection → ℕ → Now → Bytes → Taken
-startJob (writes index sub bytes) c t n room = startWrite c t n index sub bytes room
-startJob (reads index sub) c t n room = startRead c t n index sub
-startJob (loads dcf) c t n room = startDcf c t n dcf room
+startJob (writes mode index sub bytes) c t n room = startWrite c t n mode index sub bytes room
+startJob (reads mode index sub) c t n room = startRead c t n mode index sub
+startJob (loads mode dcf) c t n room = startDcf c t n mode dcf room
 
 abbrev pub jobRoom : Job → Bytes → Bytes
-jobRoom (writes index sub bytes) room = placed room 0 bytes
-jobRoom (reads index sub) room = room
-jobRoom (loads dcf) room = placed room 0 dcf
+jobRoom (writes mode index sub bytes) room = placed room 0 bytes
+jobRoom (reads mode index sub) room = room
+jobRoom (loads mode dcf) room = placed room 0 dcf
 
 -- Each start takes the next transaction number, 1 to 255 and round.
 abbrev pub numberOf : SdoClientManager → ℕ

@@ -1,7 +1,6 @@
 // For the replay's loop, which keeps the manager where it is; a panel uses start. What a start changes of the manager: the job's bytes are in the store
 // when it is told. Refusals 9, 6, 4, 5, 7, 8, in this order.
 ghost use mathlib.Core.Path.{_≡_};
-ghost use lib.ListN.{length};
 ghost use Rattle.manager.specs.Calls.{writes, reads, loads, takesNumber, idleOf, withConnection, seatIn, startedAs, startOf};
 use crate::change::same;
 use crate::change::taking;
@@ -10,6 +9,7 @@ use crate::room::write_in;
 use crate::types::Answer;
 use crate::types::Change;
 use codec::refusal::Refusal;
+use con_rec::Mode;
 use con_rec::Now;
 use con_rec::SdoClientConnection;
 use con_rec::Taken;
@@ -100,17 +100,18 @@ fn seat_in(entry: Entry, store: usize) -> Taken
 pub fn load_change(
     m: SdoClientManager,
     target: u8,
+    mode: Mode,
     dcf: &[u8],
     when: Now,
     store: &mut [u8],
 ) -> Change
-    ensures { λ r. ⌜ r ≡ startOf m target (loads (now (dcf .entry))) «when» (now (store .entry)) .change ⌝ }
-    ensures { λ _. ⌜ now (store .exit) ≡ startOf m target (loads (now (dcf .entry))) «when» (now (store .entry)) .store ⌝ }
+    ensures { λ r. ⌜ r ≡ startOf m target (loads mode (now (dcf .entry))) «when» (now (store .entry)) .change ⌝ }
+    ensures { λ _. ⌜ now (store .exit) ≡ startOf m target (loads mode (now (dcf .entry))) «when» (now (store .entry)) .store ⌝ }
 {
     let entry = target_of(m, target);
     let number = next_transaction(m.next_transaction_id);
     match seat_in(entry, store.len()) {
-        Taken::Connection(c) => started(dcf_in(c, dcf, number, when, store), entry),
+        Taken::Connection(c) => started(dcf_in(c, mode, dcf, number, when, store), entry),
         Taken::Refused(r) => same(Answer::Refused(r)),
     }
 }
@@ -119,20 +120,21 @@ pub fn load_change(
 pub fn write_change(
     m: SdoClientManager,
     target: u8,
+    mode: Mode,
     index: u16,
     sub_index: u8,
     bytes: &[u8],
     when: Now,
     store: &mut [u8],
 ) -> Change
-    ensures { λ r. ⌜ r ≡ startOf m target (writes index «sub_index» (now (bytes .entry))) «when» (now (store .entry)) .change ⌝ }
-    ensures { λ _. ⌜ now (store .exit) ≡ startOf m target (writes index «sub_index» (now (bytes .entry))) «when» (now (store .entry)) .store ⌝ }
+    ensures { λ r. ⌜ r ≡ startOf m target (writes mode index «sub_index» (now (bytes .entry))) «when» (now (store .entry)) .change ⌝ }
+    ensures { λ _. ⌜ now (store .exit) ≡ startOf m target (writes mode index «sub_index» (now (bytes .entry))) «when» (now (store .entry)) .store ⌝ }
 {
     let entry = target_of(m, target);
     let number = next_transaction(m.next_transaction_id);
     match seat_in(entry, store.len()) {
         Taken::Connection(c) => started(
-            write_in(c, index, sub_index, bytes, number, when, store),
+            write_in(c, mode, index, sub_index, bytes, number, when, store),
             entry,
         ),
         Taken::Refused(r) => same(Answer::Refused(r)),
@@ -143,17 +145,21 @@ pub fn write_change(
 pub fn read_change(
     m: SdoClientManager,
     target: u8,
+    mode: Mode,
     index: u16,
     sub_index: u8,
     when: Now,
     store: &[u8],
 ) -> Change
-    ensures { λ r. ⌜ r ≡ startOf m target (reads index «sub_index») «when» (now (store .entry)) .change ⌝ }
+    ensures { λ r. ⌜ r ≡ startOf m target (reads mode index «sub_index») «when» (now (store .entry)) .change ⌝ }
 {
     let entry = target_of(m, target);
     let number = next_transaction(m.next_transaction_id);
     match seat_in(entry, store.len()) {
-        Taken::Connection(c) => started(start_read_job(c, index, sub_index, number, when), entry),
+        Taken::Connection(c) => started(
+            start_read_job(c, mode, index, sub_index, number, when),
+            entry,
+        ),
         Taken::Refused(r) => same(Answer::Refused(r)),
     }
 }

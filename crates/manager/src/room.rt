@@ -8,6 +8,7 @@ ghost use Rattle.manager.specs.Calls.{writes, loads, roomIn, withRoom, s
 ghost use Rattle.man_table.specs.Table.{roomStart};
 use codec::command::SdoCommand;
 use codec::sequence::SequenceLayerHeader;
+use con_rec::Mode;
 use con_rec::Now;
 use con_rec::SdoClientConnection;
 use con_rec::Taken;
@@ -39,6 +40,7 @@ pub(crate) fn room_in(store: &[u8], c: SdoClientConnection) -> &[u8]
 
 pub(crate) fn write_in(
     c: SdoClientConnection,
+    mode: Mode,
     index: u16,
     sub_index: u8,
     bytes: &[u8],
@@ -47,28 +49,38 @@ pub(crate) fn write_in(
     store: &mut [u8],
 ) -> Taken
     requires { ⌜ length (now store) ≡ 32768 ⌝ }
-    ensures { λ r. ⌜ r ≡ startWrite c tid «when» index «sub_index» (now (bytes .entry)) (roomIn (now (store .entry)) c) ⌝ }
-    ensures { λ r. ⌜ now (store .exit) ≡ startedStore (startWrite c tid «when» index «sub_index» (now (bytes .entry)) (roomIn (now (store .entry)) c)) (writes index «sub_index» (now (bytes .entry))) c (now (store .entry)) ⌝ }
+    ensures { λ r. ⌜ r ≡ startWrite c tid «when» mode index «sub_index» (now (bytes .entry)) (roomIn (now (store .entry)) c) ⌝ }
+    ensures { λ r. ⌜ now (store .exit) ≡ startedStore (startWrite c tid «when» mode index «sub_index» (now (bytes .entry)) (roomIn (now (store .entry)) c)) (writes mode index «sub_index» (now (bytes .entry))) c (now (store .entry)) ⌝ }
 {
     let a = room_start(c);
     let e = a + ROOM_SIZE;
-    start_write_job(c, index, sub_index, bytes, tid, when, &mut store[a..e])
+    start_write_job(
+        c,
+        mode,
+        index,
+        sub_index,
+        bytes,
+        tid,
+        when,
+        &mut store[a..e],
+    )
 }
 
 pub(crate) fn dcf_in(
     c: SdoClientConnection,
+    mode: Mode,
     dcf: &[u8],
     tid: u8,
     when: Now,
     store: &mut [u8],
 ) -> Taken
     requires { ⌜ length (now store) ≡ 32768 ⌝ }
-    ensures { λ r. ⌜ r ≡ startDcf c tid «when» (now (dcf .entry)) (roomIn (now (store .entry)) c) ⌝ }
-    ensures { λ r. ⌜ now (store .exit) ≡ startedStore (startDcf c tid «when» (now (dcf .entry)) (roomIn (now (store .entry)) c)) (loads (now (dcf .entry))) c (now (store .entry)) ⌝ }
+    ensures { λ r. ⌜ r ≡ startDcf c tid «when» mode (now (dcf .entry)) (roomIn (now (store .entry)) c) ⌝ }
+    ensures { λ r. ⌜ now (store .exit) ≡ startedStore (startDcf c tid «when» mode (now (dcf .entry)) (roomIn (now (store .entry)) c)) (loads mode (now (dcf .entry))) c (now (store .entry)) ⌝ }
 {
     let a = room_start(c);
     let e = a + ROOM_SIZE;
-    start_concise_dcf_job(c, dcf, tid, when, &mut store[a..e])
+    start_concise_dcf_job(c, mode, dcf, tid, when, &mut store[a..e])
 }
 
 pub(crate) fn reply_in(

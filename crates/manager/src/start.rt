@@ -7,6 +7,7 @@ use crate::change_start::load_change;
 use crate::change_start::read_change;
 use crate::change_start::write_change;
 use crate::types::Done;
+use con_rec::Mode;
 use con_rec::Now;
 use man_table::types::SdoClientManager;
 
@@ -16,14 +17,15 @@ use man_table::types::SdoClientManager;
 pub fn start_configuration_download(
     m: SdoClientManager,
     target: u8,
+    mode: Mode,
     dcf: &[u8],
     when: Now,
     store: &mut [u8],
 ) -> Done
-    ensures { λ d. ⌜ d ≡ called m (now (store .entry)) [] (starts target (loads (now (dcf .entry))) «when») .done ⌝ }
-    ensures { λ _. ⌜ now (store .exit) ≡ called m (now (store .entry)) [] (starts target (loads (now (dcf .entry))) «when») .store ⌝ }
+    ensures { λ d. ⌜ d ≡ called m (now (store .entry)) [] (starts target (loads mode (now (dcf .entry))) «when») .done ⌝ }
+    ensures { λ _. ⌜ now (store .exit) ≡ called m (now (store .entry)) [] (starts target (loads mode (now (dcf .entry))) «when») .store ⌝ }
 {
-    apply_change(m, load_change(m, target, dcf, when, store))
+    apply_change(m, load_change(m, target, mode, dcf, when, store))
 }
 
 // Starts a job that writes an object of a node. 9, 6, 4 and 8 as of a DCF, 7 where its data and the 4 bytes ahead of them go past 4,096; then
@@ -31,18 +33,19 @@ pub fn start_configuration_download(
 pub fn write_object_by_index(
     m: SdoClientManager,
     target: u8,
+    mode: Mode,
     index: u16,
     sub_index: u8,
     bytes: &[u8],
     when: Now,
     store: &mut [u8],
 ) -> Done
-    ensures { λ d. ⌜ d ≡ called m (now (store .entry)) [] (starts target (writes index «sub_index» (now (bytes .entry))) «when») .done ⌝ }
-    ensures { λ _. ⌜ now (store .exit) ≡ called m (now (store .entry)) [] (starts target (writes index «sub_index» (now (bytes .entry))) «when») .store ⌝ }
+    ensures { λ d. ⌜ d ≡ called m (now (store .entry)) [] (starts target (writes mode index «sub_index» (now (bytes .entry))) «when») .done ⌝ }
+    ensures { λ _. ⌜ now (store .exit) ≡ called m (now (store .entry)) [] (starts target (writes mode index «sub_index» (now (bytes .entry))) «when») .store ⌝ }
 {
     apply_change(
         m,
-        write_change(m, target, index, sub_index, bytes, when, store),
+        write_change(m, target, mode, index, sub_index, bytes, when, store),
     )
 }
 
@@ -50,12 +53,16 @@ pub fn write_object_by_index(
 pub fn read_object_by_index(
     m: SdoClientManager,
     target: u8,
+    mode: Mode,
     index: u16,
     sub_index: u8,
     when: Now,
     store: &[u8],
 ) -> Done
-    ensures { λ d. ⌜ d ≡ called m (now (store .entry)) [] (starts target (reads index «sub_index») «when») .done ⌝ }
+    ensures { λ d. ⌜ d ≡ called m (now (store .entry)) [] (starts target (reads mode index «sub_index») «when») .done ⌝ }
 {
-    apply_change(m, read_change(m, target, index, sub_index, when, store))
+    apply_change(
+        m,
+        read_change(m, target, mode, index, sub_index, when, store),
+    )
 }

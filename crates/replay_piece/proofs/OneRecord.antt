@@ -28,7 +28,6 @@ use Rattle.replay_piece.specs.Moves.{entryMoves, movedLine, movedRun, mo
 use Rattle.replay_piece.specs.Piece.{Stand, afterRecord, runOf, standAt, stops, valueAfter}
 use Rattle.replay_piece.specs.Whole.{shown}
 use Rattle.replay_piece.specs.Types.{
-  Answer,
   Change,
   Done,
   Entry,
@@ -99,7 +98,7 @@ few-held m neat eight =
 -- a record by what comes of it, under any name
 module _ (settings : Settings) (m : SdoClientManager) (p : Progress) (at : ℕ) (store gather output text b : Bytes) where
   abbrev asked : Asked
-  asked = recordAsks (p .gathered) b (settings .timeout) (settings .retries) gather
+  asked = recordAsks (p .gathered) b (settings .choices) gather
 
   abbrev call : After
   call = granted m store output (asked .request)
@@ -140,7 +139,7 @@ module _ (settings : Settings) (m : SdoClientManager) (p : Progress) (at : ℕ) 
 
   module _ (few : p .number ≡ 65535 → ⊥) (room : p .text + 8211 ≤ length text) (more : at < length input) {n : ℕ} {b : Bytes} (size : n ≡ min (length input - at) 32)
       (part : b ≡ partAt input at n) (a : RecordPlan) {store′ gather′ output′ : Bytes}
-      (does : let x : AskedPlan = askedPlan m store output (recordAsks (p .gathered) b (settings .timeout) (settings .retries) gather) in
+      (does : let x : AskedPlan = askedPlan m store output (recordAsks (p .gathered) b (settings .choices) gather) in
       (a ≡ x .plan)
       × ((store′ ≡ x .store)
       × ((gather′ ≡ x .gather)

@@ -1,6 +1,7 @@
 -- The types that the definitions of a piece speak of, under one name.
 pub use Rattle.codec.specs.declared.refusal.Refusal.{Refusal}
 pub use Rattle.codec.specs.declared.sequence.Written.{Written}
+pub use Rattle.con_rec.specs.declared.Mode.{Mode}
 pub use Rattle.con_rec.specs.declared.Outcome.{Outcome}
 pub use Rattle.con_rec.specs.declared.Parameter.{Parameter}
 pub use Rattle.con_rec.specs.declared.SdoClientConnection.{SdoClientConnection}

@@ -12,7 +12,7 @@ use Rattle.replay_line.specs.Line.{lineOf}
 use Rattle.replay_line.specs.Value.{nodeOf, valueText}
 use Rattle.replay_record.specs.Gather.{gatherSize}
 use Rattle.replay_record.specs.Request.{Asked, granted, recordAsks}
-use Rattle.replay_piece.specs.Types.{Parameter, SdoClientManager, Settings, Shows}
+use Rattle.replay_piece.specs.Types.{Mode, Parameter, SdoClientManager, Settings, Shows}
 
 abbrev pub recordSize : ℕ
 recordSize = 32
@@ -50,7 +50,7 @@ shown Shows.Values number b m a = valueText number b (objectOf m (nodeOf b)) (a 
 module _ (settings : Settings) where
   -- a record: what it asks for, what comes of that, what is written of it, and the state after it
   abbrev pub asked : State → Bytes → Asked
-  asked s b = recordAsks (s .gathered) b (settings .timeout) (settings .retries) (s .gather)
+  asked s b = recordAsks (s .gathered) b (settings .choices) (s .gather)
 
   abbrev pub result : State → Bytes → After
   result s b = granted (s .manager) (s .store) (s .output) (asked s b .request)
@@ -80,12 +80,13 @@ module _ (settings : Settings) where
   abbrev pub linesWith : Bytes → Bytes
   linesWith input = linesFrom mostRecords first input
 
--- The replay and `values` have timeout and retries absent.
-abbrev pub absent : Shows → Settings
-absent shows = record { shows = shows; timeout = Parameter.Absent; retries = Parameter.Absent }
+-- The replay and `values` are in repository mode, with timeout and retries absent.
+abbrev pub plain : Shows → Settings
+plain shows =
+    record { shows = shows; choices = record { mode = Mode.Repository; timeout = Parameter.Absent; retries = Parameter.Absent } }
 
 abbrev pub allLines : Bytes → Bytes
-allLines input = linesWith (absent Shows.Lines) input
+allLines input = linesWith (plain Shows.Lines) input
 
 abbrev pub allValues : Bytes → Bytes
-allValues input = linesWith (absent Shows.Values) input
+allValues input = linesWith (plain Shows.Values) input

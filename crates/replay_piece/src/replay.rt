@@ -21,7 +21,6 @@ use crate::types::Settings;
 use crate::types::Shows;
 use codec::octets::part;
 use con_rec::EndFound;
-use con_rec::Parameter;
 use con_rec::SdoClientConnection;
 use con_rec::numbers::at_most;
 use man_table::sweep::swept;
@@ -34,6 +33,7 @@ use manager::types::Plan;
 use manager::value::object_of;
 use replay_line::line::MOST_LINE;
 use replay_line::value::node_of;
+use replay_record::plan::Choices;
 use replay_record::plan::RecordPlan;
 use replay_record::plan::plan_record;
 use replay_record::record::RECORD_SIZE;
@@ -136,21 +136,20 @@ fn moves(shows: Shows, plan: Plan) -> bool
 fn plan_of(
     m: SdoClientManager,
     gathered: usize,
-    timeout: Parameter,
-    retries: Parameter,
+    choices: Choices,
     b: &[u8],
     store: &mut [u8],
     gather: &mut [u8],
     output: &mut [u8],
 ) -> RecordPlan
-    ensures { λ r. ⌜ r ≡ askedPlan m (now (store .entry)) (now (output .entry)) (recordAsks gathered (now (b .entry)) timeout retries (now (gather .entry))) .plan ⌝ }
-    ensures { λ _. ⌜ now (store .exit) ≡ askedPlan m (now (store .entry)) (now (output .entry)) (recordAsks gathered (now (b .entry)) timeout retries (now (gather .entry))) .store ⌝ }
-    ensures { λ _. ⌜ now (gather .exit) ≡ askedPlan m (now (store .entry)) (now (output .entry)) (recordAsks gathered (now (b .entry)) timeout retries (now (gather .entry))) .gather ⌝ }
-    ensures { λ _. ⌜ now (output .exit) ≡ askedPlan m (now (store .entry)) (now (output .entry)) (recordAsks gathered (now (b .entry)) timeout retries (now (gather .entry))) .output ⌝ }
+    ensures { λ r. ⌜ r ≡ askedPlan m (now (store .entry)) (now (output .entry)) (recordAsks gathered (now (b .entry)) choices (now (gather .entry))) .plan ⌝ }
+    ensures { λ _. ⌜ now (store .exit) ≡ askedPlan m (now (store .entry)) (now (output .entry)) (recordAsks gathered (now (b .entry)) choices (now (gather .entry))) .store ⌝ }
+    ensures { λ _. ⌜ now (gather .exit) ≡ askedPlan m (now (store .entry)) (now (output .entry)) (recordAsks gathered (now (b .entry)) choices (now (gather .entry))) .gather ⌝ }
+    ensures { λ _. ⌜ now (output .exit) ≡ askedPlan m (now (store .entry)) (now (output .entry)) (recordAsks gathered (now (b .entry)) choices (now (gather .entry))) .output ⌝ }
     ensures { λ _. ⌜ length (m .connections) ≡ 8 ⌝ }
     ensures { λ _. ⌜ (length (now (store .exit)) ≡ length (now (store .entry))) × ((length (now (gather .exit)) ≡ length (now (gather .entry))) × (length (now (output .exit)) ≡ length (now (output .entry)))) ⌝ }
 {
-    plan_record(m, gathered, b, timeout, retries, store, gather, output)
+    plan_record(m, gathered, b, choices, store, gather, output)
 }
 
 // A text so long has no room for a line more.
@@ -183,8 +182,7 @@ pub fn replay_piece(
 {
     let full = full_at(text.len());
     let shows = settings.shows;
-    let timeout = settings.timeout;
-    let retries = settings.retries;
+    let choices = settings.choices;
     let mut m = swept(run.manager);
     let mut r = run.progress;
     let mut at: usize = 0;
@@ -195,7 +193,7 @@ pub fn replay_piece(
         let n = at_most(input.len() - at, RECORD_SIZE);
         let b = part(input, at, n);
         at += n;
-        let planned = plan_of(m, r.gathered, timeout, retries, b, store, gather, output);
+        let planned = plan_of(m, r.gathered, choices, b, store, gather, output);
         let plan = planned.plan;
         r.number += 1;
         r.gathered = planned.gathered;

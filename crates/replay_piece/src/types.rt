@@ -1,7 +1,7 @@
 // What a replay goes by, and how far it is.
-use con_rec::Parameter;
 use man_table::types::SdoClientManager;
 use manager::types::StorePart;
+use replay_record::plan::Choices;
 
 // What is written of a record: the replay's line; or the line of its value, where it ended a read Complete.
 pub enum Shows {
@@ -11,8 +11,7 @@ pub enum Shows {
 
 pub struct Settings {
     pub shows: Shows,
-    pub timeout: Parameter,
-    pub retries: Parameter,
+    pub choices: Choices,
 }
 
 // The last value that a record was answered: the record's number, 0 where none was, and the part of the store.

@@ -12,7 +12,7 @@ use Rattle.manager.specs.Plan.{planDone, planOf}
 use Rattle.replay_record.specs.Gather.{alreadyGathered, gatherSize}
 use Rattle.replay_record.specs.Record.{recordRead}
 use Rattle.replay_record.specs.Request.{Asked, Request, answers, askedPlan, calls, granted, readAsks, recordAsks, refusesWith, requestPlan, useCall}
-use Rattle.replay_record.specs.Types.{Now, Parameter, Record, RecordPlan, RecordRead, Refusal, SdoClientManager, Use}
+use Rattle.replay_record.specs.Types.{Choices, Mode, Now, Record, RecordPlan, RecordRead, Refusal, SdoClientManager, Use}
 
 -- the four parts, by what the record is found to ask for
 module _ (m : SdoClientManager) (store output : Bytes) where
@@ -32,23 +32,23 @@ module _ (m : SdoClientManager) (store output : Bytes) where
   plan-grants (answers a) = rw (same-done m a)
 
 -- operations 1, 3 and 4 look at no output
-pub use-plan : (u : Use) (r : Record) (m : SdoClientManager) (n : Now) (bytes store output : Bytes)
-    → (planOf m store [] (useCall u r n bytes) .plan ≡ planOf m store output (useCall u r n bytes) .plan)
-    × ((planOf m store [] (useCall u r n bytes) .store ≡ planOf m store output (useCall u r n bytes) .store)
-    × (output ≡ planOf m store output (useCall u r n bytes) .output))
+pub use-plan : (u : Use) (mode : Mode) (r : Record) (m : SdoClientManager) (n : Now) (bytes store output : Bytes)
+    → (planOf m store [] (useCall u mode r n bytes) .plan ≡ planOf m store output (useCall u mode r n bytes) .plan)
+    × ((planOf m store [] (useCall u mode r n bytes) .store ≡ planOf m store output (useCall u mode r n bytes) .store)
+    × (output ≡ planOf m store output (useCall u mode r n bytes) .output))
 unfolding planOf
-use-plan Use.Write r m n bytes store output = (refl, (refl, refl))
-use-plan Use.Dcf r m n bytes store output = (refl, (refl, refl))
-use-plan Use.Reply r m n bytes store output = (refl, (refl, refl))
+use-plan Use.Write mode r m n bytes store output = (refl, (refl, refl))
+use-plan Use.Dcf mode r m n bytes store output = (refl, (refl, refl))
+use-plan Use.Reply mode r m n bytes store output = (refl, (refl, refl))
 
 -- by the gather buffer, and by what was read
-module _ (gathered : ℕ) (b : Bytes) (timeout retries : Parameter) (gather : Bytes) where
+module _ (gathered : ℕ) (b : Bytes) (choices : Choices) (gather : Bytes) where
   pub unread : length gather < gatherSize
-      → refusesWith Refusal.BufferTooShort (alreadyGathered gathered) gather ≡ recordAsks gathered b timeout retries gather
+      → refusesWith Refusal.BufferTooShort (alreadyGathered gathered) gather ≡ recordAsks gathered b choices gather
   unfolding recordAsks
   unread h = below _ _ _ _ h refl
 
   pub reads : {read arm : RecordRead} → gatherSize ≤ length gather → read ≡ recordRead b → read ≡ arm
-      → readAsks arm (alreadyGathered gathered) b timeout retries gather ≡ recordAsks gathered b timeout retries gather
+      → readAsks arm (alreadyGathered gathered) b choices gather ≡ recordAsks gathered b choices gather
   unfolding recordAsks
-  reads h e f = not-below _ _ _ _ h (told (λ x. readAsks x (alreadyGathered gathered) b timeout retries gather) e f refl)
+  reads h e f = not-below _ _ _ _ h (told (λ x. readAsks x (alreadyGathered gathered) b choices gather) e f refl)

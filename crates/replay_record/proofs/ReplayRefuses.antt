@@ -17,7 +17,7 @@ use Rattle.replay_record.specs.Causes.{ReplayRefuses, askChecks, gatherC
 use Rattle.replay_record.specs.Gather.{alreadyGathered, gatherSize, gatheredWith, mostGathered}
 use Rattle.replay_record.specs.Record.{operationOf, ownData, recordNamed, recordRead}
 use Rattle.replay_record.specs.Request.{Asked, Request, answers, calls, operationAsks, readAsks, recordAsks, whenOf}
-use Rattle.replay_record.specs.Types.{Answer, Gathered, Now, Operation, OperationRead, Parameter, Record, RecordRead, Refusal}
+use Rattle.replay_record.specs.Types.{Answer, Choices, Gathered, Mode, Now, Operation, OperationRead, Record, RecordRead, Refusal}
 
 -- ---- the operation of a number: 1 to 7, and 7 is the gather
 abbrev GatherAt : ℕ → Operation → Type 0
@@ -103,42 +103,42 @@ Asks (answers a) = Gathers a
 own-length : (b : Bytes) (n : ℕ) → 16 + n ≤ length b → length (partAt b 16 n) ≡ n
 own-length b n h = rw (← part-inside b 16 n h, length-take, length-drop) (omega arith)
 
-module _ (gathered : ℕ) (b : Bytes) (timeout retries : Parameter) (gather : Bytes) where
+module _ (gathered : ℕ) (b : Bytes) (choices : Choices) (gather : Bytes) where
   abbrev already : ℕ
   already = alreadyGathered gathered
 
   abbrev GatherCause : Type 0
   GatherCause = (operationIn b ≡ 7) × (mostGathered < already + lengthIn b)
 
-  operation-goes : (o : Operation) (r : Record) (n : Now) (own : Bytes) → GatherAt (operationIn b) o → length own ≡ lengthIn b
-      → Answers refusedBy Asks (check Refusal.NoRoom GatherCause ∷ []) (operationAsks o r already n own gather .request)
-  operation-goes (Operation.Uses u) r n own h e = inr (λ z. h (z .0), tt)
-  operation-goes Operation.Read r n own h e = inr (λ z. h (z .0), tt)
-  operation-goes (Operation.Turns t) r n own h e = inr (λ z. h (z .0), tt)
-  operation-goes Operation.Gather r n own h e = rw e (go (gatheredWith already (lengthIn b) .answer) (gather-goes already (lengthIn b)))
+  operation-goes : (o : Operation) (mode : Mode) (r : Record) (n : Now) (own : Bytes) → GatherAt (operationIn b) o → length own ≡ lengthIn b
+      → Answers refusedBy Asks (check Refusal.NoRoom GatherCause ∷ []) (operationAsks o mode r already n own gather .request)
+  operation-goes (Operation.Uses u) mode r n own h e = inr (λ z. h (z .0), tt)
+  operation-goes Operation.Read mode r n own h e = inr (λ z. h (z .0), tt)
+  operation-goes (Operation.Turns t) mode r n own h e = inr (λ z. h (z .0), tt)
+  operation-goes Operation.Gather mode r n own h e = rw e (go (gatheredWith already (lengthIn b) .answer) (gather-goes already (lengthIn b)))
     where
       go : (a : Answer) → Answers Answer.Refused Gathers (gatherChecks already (lengthIn b)) a
           → Answers refusedBy Asks (check Refusal.NoRoom GatherCause ∷ []) (answers a)
       go a (inl k) = inl ((h, k .0), ap answers (k .1))
       go a (inr k) = inr (λ z. k .0 (z .1), k .1)
 
-  ask-goes : Answers refusedBy Asks (askChecks gathered b gather) (recordAsks gathered b timeout retries gather .request)
+  ask-goes : Answers refusedBy Asks (askChecks gathered b gather) (recordAsks gathered b choices gather .request)
   unfolding recordAsks
   ask-goes =
       decided (λ (x : Asked). Answers refusedBy Asks (askChecks gathered b gather) (x .request)) (ltb (length gather) gatherSize) _ _
       (λ e. inl (ltb-true _ _ e, refl))
       (λ e. let k : gatherSize ≤ length gather = ltb-false _ _ e in inr (
         λ z. omega arith,
-        told-by RecordRead.Refused (Read b) refusedBy Asks (λ x. readAsks x already b timeout retries gather .request) (λ r. refl)
+        told-by RecordRead.Refused (Read b) refusedBy Asks (λ x. readAsks x already b choices gather .request) (λ r. refl)
             (recordChecks b) (check Refusal.NoRoom GatherCause ∷ []) (recordRead b) (go (recordRead b)) (record-goes b),
       ))
     where
       go : (x : RecordRead) → Read b x
-          → Answers refusedBy Asks (check Refusal.NoRoom GatherCause ∷ []) (readAsks x already b timeout retries gather .request)
+          → Answers refusedBy Asks (check Refusal.NoRoom GatherCause ∷ []) (readAsks x already b choices gather .request)
       go (RecordRead.Record r) h =
           let e = h .2 in
           let inside : 16 + r .length ≤ length b = let k = h .0 in let l = h .1 in omega arith in
-          operation-goes (r .operation) r (whenOf r timeout retries) (ownData b r) (h .3) (own-length b (r .length) inside ∙ e)
+          operation-goes (r .operation) (choices .mode) r (whenOf r choices) (ownData b r) (h .3) (own-length b (r .length) inside ∙ e)
       go (RecordRead.Refused r) h = absurd h
 
 pub replay-refuses : ReplayRefuses
@@ -146,6 +146,6 @@ replay-refuses =
     record {
       record-read = λ b. exactly RecordRead.Refused (Read b) (λ r u. u) (λ r s e. cc) (recordChecks b) _ (record-goes b);
       gather-more = λ already more. exactly Answer.Refused Gathers (λ r u. u) (λ r s e. cc) (gatherChecks already more) _ (gather-goes already more);
-      record-asks = λ gathered b timeout retries gather.
-          exactly refusedBy Asks (λ r u. u) (λ r s e. cc) (askChecks gathered b gather) _ (ask-goes gathered b timeout retries gather);
+      record-asks = λ gathered b choices gather.
+          exactly refusedBy Asks (λ r u. u) (λ r s e. cc) (askChecks gathered b gather) _ (ask-goes gathered b choices gather);
     }

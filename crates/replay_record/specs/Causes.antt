@@ -9,7 +9,7 @@ use Rattle.codec.specs.Bytes.{Bytes}
 use Rattle.replay_record.specs.Gather.{alreadyGathered, gatherSize, gatheredWith, mostGathered}
 use Rattle.replay_record.specs.Record.{recordRead}
 use Rattle.replay_record.specs.Request.{Request, answers, recordAsks}
-use Rattle.replay_record.specs.Types.{Answer, Parameter, RecordRead, Refusal}
+use Rattle.replay_record.specs.Types.{Answer, Choices, RecordRead, Refusal}
 
 -- a record's operation (byte 0) and its length (byte 5)
 abbrev pub operationIn : Bytes → ℕ
@@ -45,5 +45,5 @@ refusedBy r = answers (Answer.Refused r)
 pub record ReplayRefuses : Type 0 where
   pub record-read : (b : Bytes) → Exactly RecordRead.Refused (recordChecks b) (recordRead b)
   pub gather-more : (already more : ℕ) → Exactly Answer.Refused (gatherChecks already more) (gatheredWith already more .answer)
-  pub record-asks : (gathered : ℕ) (b : Bytes) (timeout retries : Parameter) (gather : Bytes)
-      → Exactly refusedBy (askChecks gathered b gather) (recordAsks gathered b timeout retries gather .request)
+  pub record-asks : (gathered : ℕ) (b : Bytes) (choices : Choices) (gather : Bytes)
+      → Exactly refusedBy (askChecks gathered b gather) (recordAsks gathered b choices gather .request)

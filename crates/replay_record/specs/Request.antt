@@ -15,11 +15,12 @@ use Rattle.replay_record.specs.Gather.{alreadyGathered, gatherSize, gath
 use Rattle.replay_record.specs.Record.{ownData, recordRead}
 use Rattle.replay_record.specs.Types.{
   Answer,
+  Choices,
   CommandId,
   DataSize,
+  Mode,
   Now,
   Operation,
-  Parameter,
   Record,
   RecordPlan,
   RecordRead,
@@ -56,20 +57,20 @@ abbrev pub replyCommand : ℕ → SdoCommand
 replyCommand flags = record { header = headerAt (flagged flags) CommandId.Nil; «data_size» = DataSize.Absent }
 
 -- the call with those bytes
-abbrev pub useCall : Use → Record → Now → Bytes → Call
-useCall Use.Write r n bytes = starts (r .node) (writes (r .index) (r .«sub_index») bytes) n
-useCall Use.Dcf r n bytes = starts (r .node) (loads bytes) n
-useCall Use.Reply r n bytes = replies (r .node) (replyHeader (r .index)) (replyCommand (r .flags)) bytes
+abbrev pub useCall : Use → Mode → Record → Now → Bytes → Call
+useCall Use.Write mode r n bytes = starts (r .node) (writes mode (r .index) (r .«sub_index») bytes) n
+useCall Use.Dcf mode r n bytes = starts (r .node) (loads mode bytes) n
+useCall Use.Reply mode r n bytes = replies (r .node) (replyHeader (r .index)) (replyCommand (r .flags)) bytes
 
--- an operation
-abbrev pub operationAsks : Operation → Record → ℕ → Now → Bytes → Bytes → Asked
-operationAsks (Operation.Uses u) r already n own gather =
-    record { request = calls (useCall u r n (usedBytes gather already own)); gathered = 0; gather = placed gather already own }
-operationAsks Operation.Read r already n own gather =
-    record { request = calls (starts (r .node) (reads (r .index) (r .«sub_index»)) n); gathered = already; gather = gather }
-operationAsks (Operation.Turns t) r already n own gather =
+-- an operation; a start is in the mode that is chosen for all records
+abbrev pub operationAsks : Operation → Mode → Record → ℕ → Now → Bytes → Bytes → Asked
+operationAsks (Operation.Uses u) mode r already n own gather =
+    record { request = calls (useCall u mode r n (usedBytes gather already own)); gathered = 0; gather = placed gather already own }
+operationAsks Operation.Read mode r already n own gather =
+    record { request = calls (starts (r .node) (reads mode (r .index) (r .«sub_index»)) n); gathered = already; gather = gather }
+operationAsks (Operation.Turns t) mode r already n own gather =
     record { request = calls (turns t n); gathered = already; gather = gather }
-operationAsks Operation.Gather r already n own gather =
+operationAsks Operation.Gather mode r already n own gather =
     record {
       request = answers (gatheredWith already (length own) .answer);
       gathered = gatheredWith already (length own) .gathered;
@@ -77,24 +78,24 @@ operationAsks Operation.Gather r already n own gather =
     }
 
 -- the time of a record, with the two parameters
-abbrev pub whenOf : Record → Parameter → Parameter → Now
-whenOf r timeout retries = record { time = r .time; timeout = timeout; retries = retries }
+abbrev pub whenOf : Record → Choices → Now
+whenOf r choices = record { time = r .time; timeout = choices .timeout; retries = choices .retries }
 
 -- a refusal of the replay's own leaves what was gathered
 abbrev pub refusesWith : Refusal → ℕ → Bytes → Asked
 refusesWith why already gather = record { request = answers (Answer.Refused why); gathered = already; gather = gather }
 
-abbrev pub readAsks : RecordRead → ℕ → Bytes → Parameter → Parameter → Bytes → Asked
-readAsks (RecordRead.Refused why) already b timeout retries gather = refusesWith why already gather
-readAsks (RecordRead.Record r) already b timeout retries gather =
-    operationAsks (r .operation) r already (whenOf r timeout retries) (ownData b r) gather
+abbrev pub readAsks : RecordRead → ℕ → Bytes → Choices → Bytes → Asked
+readAsks (RecordRead.Refused why) already b choices gather = refusesWith why already gather
+readAsks (RecordRead.Record r) already b choices gather =
+    operationAsks (r .operation) (choices .mode) r already (whenOf r choices) (ownData b r) gather
 
 -- A gather buffer under 4,112 bytes is refused with 1.
-unfoldable pub recordAsks : ℕ → Bytes → Parameter → Parameter → Bytes → Asked
-recordAsks gathered b timeout retries gather =
+unfoldable pub recordAsks : ℕ → Bytes → Choices → Bytes → Asked
+recordAsks gathered b choices gather =
     pick (ltb (length gather) gatherSize)
     (refusesWith Refusal.BufferTooShort (alreadyGathered gathered) gather)
-    (readAsks (recordRead b) (alreadyGathered gathered) b timeout retries gather)
+    (readAsks (recordRead b) (alreadyGathered gathered) b choices gather)
 
 -- ---- what comes of a request: the call; or the answer, with manager, store and output as they were
 

@@ -28,6 +28,7 @@ use codec::sequence::ReceiveConnState;
 use codec::sequence::SendConnState;
 use codec::sequence::SequenceLayerHeader;
 use codec::sequence::SequenceRead;
+use con_rec::Mode;
 use con_rec::Now;
 use con_rec::Parameter;
 use con_rec::numbers::at_most;
@@ -40,6 +41,13 @@ use manager::change_start::write_change;
 use manager::plan::plan_turn;
 use manager::types::Answer;
 use manager::types::Plan;
+
+// What is chosen for all records of a run: the mode of each start, timeout and retries.
+pub struct Choices {
+    pub mode: Mode,
+    pub timeout: Parameter,
+    pub retries: Parameter,
+}
 
 // A record's plan, and how many bytes are gathered after it.
 pub struct RecordPlan {
@@ -106,21 +114,22 @@ fn reply_command(flags: u8) -> SdoCommand
 // The plan of operations 1, 3 and 4.
 fn plan_use(
     u: Use,
+    mode: Mode,
     r: Record,
     m: SdoClientManager,
     when: Now,
     bytes: &[u8],
     store: &mut [u8],
 ) -> Plan
-    ensures { λ p. ⌜ p ≡ planOf m (now (store .entry)) [] (useCall u r «when» (now (bytes .entry))) .plan ⌝ }
-    ensures { λ _. ⌜ now (store .exit) ≡ planOf m (now (store .entry)) [] (useCall u r «when» (now (bytes .entry))) .store ⌝ }
+    ensures { λ p. ⌜ p ≡ planOf m (now (store .entry)) [] (useCall u mode r «when» (now (bytes .entry))) .plan ⌝ }
+    ensures { λ _. ⌜ now (store .exit) ≡ planOf m (now (store .entry)) [] (useCall u mode r «when» (now (bytes .entry))) .store ⌝ }
 {
     match u {
         Use::Write => {
-            let change = write_change(m, r.node, r.index, r.sub_index, bytes, when, store);
+            let change = write_change(m, r.node, mode, r.index, r.sub_index, bytes, when, store);
             return Plan::Change(change);
         }
-        Use::Dcf => return Plan::Change(load_change(m, r.node, bytes, when, store)),
+        Use::Dcf => return Plan::Change(load_change(m, r.node, mode, bytes, when, store)),
         Use::Reply => {
             let seq = reply_header(r.index);
             let cmd = reply_command(r.flags);
@@ -137,6 +146,7 @@ fn gathered_as(g: Gathered) -> RecordPlan
 }
 
 fn perform(
+    mode: Mode,
     r: Record,
     m: SdoClientManager,
     already: usize,
@@ -147,10 +157,10 @@ fn perform(
     output: &mut [u8],
 ) -> RecordPlan
     requires { ⌜ (already ≤ 4096) × (length (now own) ≤ 16) × (4112 ≤ length (now gather)) ⌝ }
-    ensures { λ a. ⌜ a ≡ askedPlan m (now (store .entry)) (now (output .entry)) (operationAsks (r .operation) r already «when» (now (own .entry)) (now (gather .entry))) .plan ⌝ }
-    ensures { λ _. ⌜ now (store .exit) ≡ askedPlan m (now (store .entry)) (now (output .entry)) (operationAsks (r .operation) r already «when» (now (own .entry)) (now (gather .entry))) .store ⌝ }
-    ensures { λ _. ⌜ now (gather .exit) ≡ askedPlan m (now (store .entry)) (now (output .entry)) (operationAsks (r .operation) r already «when» (now (own .entry)) (now (gather .entry))) .gather ⌝ }
-    ensures { λ _. ⌜ now (output .exit) ≡ askedPlan m (now (store .entry)) (now (output .entry)) (operationAsks (r .operation) r already «when» (now (own .entry)) (now (gather .entry))) .output ⌝ }
+    ensures { λ a. ⌜ a ≡ askedPlan m (now (store .entry)) (now (output .entry)) (operationAsks (r .operation) mode r already «when» (now (own .entry)) (now (gather .entry))) .plan ⌝ }
+    ensures { λ _. ⌜ now (store .exit) ≡ askedPlan m (now (store .entry)) (now (output .entry)) (operationAsks (r .operation) mode r already «when» (now (own .entry)) (now (gather .entry))) .store ⌝ }
+    ensures { λ _. ⌜ now (gather .exit) ≡ askedPlan m (now (store .entry)) (now (output .entry)) (operationAsks (r .operation) mode r already «when» (now (own .entry)) (now (gather .entry))) .gather ⌝ }
+    ensures { λ _. ⌜ now (output .exit) ≡ askedPlan m (now (store .entry)) (now (output .entry)) (operationAsks (r .operation) mode r already «when» (now (own .entry)) (now (gather .entry))) .output ⌝ }
 {
     let operation = r.operation;
     match operation {
@@ -158,13 +168,13 @@ fn perform(
             put(gather, already, own);
             let n = already + own.len();
             return RecordPlan {
-                plan: plan_use(u, r, m, when, part(gather, 0, n), store),
+                plan: plan_use(u, mode, r, m, when, part(gather, 0, n), store),
                 gathered: 0,
             };
         }
         Operation::Read => {
             return RecordPlan {
-                plan: Plan::Change(read_change(m, r.node, r.index, r.sub_index, when, store)),
+                plan: Plan::Change(read_change(m, r.node, mode, r.index, r.sub_index, when, store)),
                 gathered: already,
             };
         }
@@ -184,17 +194,19 @@ pub fn plan_record(
     m: SdoClientManager,
     gathered: usize,
     b: &[u8],
-    timeout: Parameter,
-    retries: Parameter,
+    choices: Choices,
     store: &mut [u8],
     gather: &mut [u8],
     output: &mut [u8],
 ) -> RecordPlan
-    ensures { λ r. ⌜ r ≡ askedPlan m (now (store .entry)) (now (output .entry)) (recordAsks gathered (now (b .entry)) timeout retries (now (gather .entry))) .plan ⌝ }
-    ensures { λ _. ⌜ now (store .exit) ≡ askedPlan m (now (store .entry)) (now (output .entry)) (recordAsks gathered (now (b .entry)) timeout retries (now (gather .entry))) .store ⌝ }
-    ensures { λ _. ⌜ now (gather .exit) ≡ askedPlan m (now (store .entry)) (now (output .entry)) (recordAsks gathered (now (b .entry)) timeout retries (now (gather .entry))) .gather ⌝ }
-    ensures { λ _. ⌜ now (output .exit) ≡ askedPlan m (now (store .entry)) (now (output .entry)) (recordAsks gathered (now (b .entry)) timeout retries (now (gather .entry))) .output ⌝ }
+    ensures { λ r. ⌜ r ≡ askedPlan m (now (store .entry)) (now (output .entry)) (recordAsks gathered (now (b .entry)) choices (now (gather .entry))) .plan ⌝ }
+    ensures { λ _. ⌜ now (store .exit) ≡ askedPlan m (now (store .entry)) (now (output .entry)) (recordAsks gathered (now (b .entry)) choices (now (gather .entry))) .store ⌝ }
+    ensures { λ _. ⌜ now (gather .exit) ≡ askedPlan m (now (store .entry)) (now (output .entry)) (recordAsks gathered (now (b .entry)) choices (now (gather .entry))) .gather ⌝ }
+    ensures { λ _. ⌜ now (output .exit) ≡ askedPlan m (now (store .entry)) (now (output .entry)) (recordAsks gathered (now (b .entry)) choices (now (gather .entry))) .output ⌝ }
 {
+    let mode = choices.mode;
+    let timeout = choices.timeout;
+    let retries = choices.retries;
     let already = at_most(gathered, MOST_GATHERED);
     if gather.len() < GATHER_SIZE {
         return answered(Answer::Refused(Refusal::BufferTooShort), already);
@@ -208,7 +220,7 @@ pub fn plan_record(
                 retries,
             };
             let own = part(b, 16, r.length as usize);
-            return perform(r, m, already, when, own, store, gather, output);
+            return perform(mode, r, m, already, when, own, store, gather, output);
         }
     }
 }

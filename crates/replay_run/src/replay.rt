@@ -1,7 +1,8 @@
 // The replay (document 01, "Replay"): records of 32 bytes, a line for each; for comparisons each line is followed by the manager's state. And values
 // (document 02, CR 1): the same records, a line for each read that ends Complete.
 use crate::parameters::Parameters;
-use crate::parameters::absent;
+use crate::parameters::ParametersRead;
+use crate::parameters::plain;
 use crate::parameters::read_parameters;
 use crate::state::print_state;
 use codec::octets::part;
@@ -192,23 +193,31 @@ fn run_by(p: Parameters) {
     write_out(&text, last.text);
 }
 
-// Replays standard input; timeout and retries are absent.
+// Replays standard input, in repository mode; timeout and retries are absent.
 pub fn replay()
     ensures { λ _. ⊤ₛ }
 {
-    run_by(absent(Shows::Lines));
+    run_by(plain(Shows::Lines));
 }
 
 // The value of each read that ends Complete, of the same records.
 pub fn values()
     ensures { λ _. ⊤ₛ }
 {
-    run_by(absent(Shows::Values));
+    run_by(plain(Shows::Values));
 }
 
-// Replays standard input with the parameters at its head, and shows the manager's state after each record.
+// Replays standard input with the parameters at its head, and shows the manager's state after each record. Where the byte of modes has
+// bits that mean nothing, no record is read.
 pub fn replay_states()
     ensures { λ _. ⊤ₛ }
 {
-    run_by(read_parameters());
+    let ParametersRead::Parameters(p) = read_parameters() else {
+        io::write_all(
+            STDERR_FILENO,
+            b"the eleventh byte ahead of the records must be 0 or 1\n",
+        );
+        return;
+    };
+    run_by(p);
 }

@@ -142,10 +142,10 @@ module _ (entries : List Bytes) (Runs : Running) (Ends : Ending) (kept : Kept en
         unclosed = ap isClosed (sym in-state) ∙ sym (i .ends) ∙ ap isEnded (on .runs)
 
         opens-as : isOpening (commandOf o .header .«command_id») ≡ opens (c .state)
-        opens-as = waited (o .message) (o .transaction) unclosed .1 ∙ ap opens (sym in-state)
+        opens-as = waited (o .mode) (o .message) (o .transaction) unclosed .1 ∙ ap opens (sym in-state)
 
         may : MayWait (c .state)
-        may = subst MayWait (sym in-state) (waited (o .message) (o .transaction) unclosed .0)
+        may = subst MayWait (sym in-state) (waited (o .mode) (o .message) (o .transaction) unclosed .0)
 
       -- nothing waits where the command was cleared
       lets-go : (t : Story) (b : Bytes) (d : Connection) → t .awaits ≡ free

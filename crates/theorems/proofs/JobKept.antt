@@ -25,6 +25,7 @@ use Rattle.theorems.specs.Types.{
   DcfStep,
   Decision,
   LoadedTransfer,
+  Mode,
   Outcome,
   Outgoing,
   Outstanding,
@@ -64,14 +65,14 @@ MayWait State.UploadInProgress = Unit {0}
 MayWait State.DownloadInProgress = Unit {0}
 MayWait State.Closed = ⊥
 
-pub waited : (m : Message) (t : ℕ) → isClosed (awaiting m) ≡ false
-    → MayWait (awaiting m) × (isOpening (commandBy m t .header .«command_id») ≡ opens (awaiting m))
-waited Message.Opening t h = (tt, refl)
-waited (Message.Read index sub) t h = (tt, refl)
-waited Message.Next t h = (tt, refl)
-waited (Message.First x) t h = (tt, refl)
-waited (Message.Later x sent) t h = (tt, refl)
-waited (Message.Abort code) t h = absurd (true≢false h)
+pub waited : (mode : Mode) (m : Message) (t : ℕ) → isClosed (awaiting m) ≡ false
+    → MayWait (awaiting m) × (isOpening (commandBy mode m t .header .«command_id») ≡ opens (awaiting m))
+waited mode Message.Opening t h = (tt, refl)
+waited mode (Message.Read index sub) t h = (tt, refl)
+waited mode Message.Next t h = (tt, refl)
+waited mode (Message.First x) t h = (tt, refl)
+waited mode (Message.Later x sent) t h = (tt, refl)
+waited mode (Message.Abort code) t h = absurd (true≢false h)
 
 -- a reason that is neither Complete nor Cut
 abbrev pub Breaks : Reason → Type 0

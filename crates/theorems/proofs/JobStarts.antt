@@ -18,28 +18,28 @@ use Rattle.theorems.specs.Types.{Taken, Moment, Now, SdoClientConnection
 use Rattle.theorems.proofs.NodeAndRoom.{TakenSame, Same}
 
 -- the job that begins, and its transaction number
-abbrev begunJob : Job → SdoJob
-begunJob (writes index sub bytes) = writeJob index sub bytes
-begunJob (reads index sub) = readJob index sub
-begunJob (loads dcf) = dcfJob (dcfStep dcf (firstCursor dcf)) (length dcf) (firstCursor dcf)
+abbrev pub begunJob : Job → SdoJob
+begunJob (writes mode index sub bytes) = writeJob mode index sub bytes
+begunJob (reads mode index sub) = readJob mode index sub
+begunJob (loads mode dcf) = dcfJob mode (dcfStep dcf (firstCursor dcf)) (length dcf) (firstCursor dcf)
 
 abbrev begunNumber : Job → ℕ → ℕ
-begunNumber (writes index sub bytes) t = t
-begunNumber (reads index sub) t = t
-begunNumber (loads dcf) t = dcfTransaction (dcfStep dcf (firstCursor dcf)) t
+begunNumber (writes mode index sub bytes) t = t
+begunNumber (reads mode index sub) t = t
+begunNumber (loads mode dcf) t = dcfTransaction (dcfStep dcf (firstCursor dcf)) t
 
 abbrev pub JobView : Job → Connection → ℕ → Now → Bytes → Taken → Type 0
 JobView job c t n room = StartView c n room (Short job) (jobBytes job) (begunNumber job t) (begunJob job)
 
 pub job-view : (job : Job) (c : Connection) (t : ℕ) (n : Now) (room : Bytes) → JobView job c t n room (startJob job c t n room)
-job-view (writes index sub bytes) c t n room = write-view c n room t index sub bytes
-job-view (reads index sub) c t n room = read-view c n room t index sub
-job-view (loads dcf) c t n room = dcf-view c n room t dcf
+job-view (writes mode index sub bytes) c t n room = write-view c n room t mode index sub bytes
+job-view (reads mode index sub) c t n room = read-view c n room t mode index sub
+job-view (loads mode dcf) c t n room = dcf-view c n room t mode dcf
 
 fits : (job : Job) (room : Bytes) → jobBytes job ≤ capacity room → length (jobRoom job room) ≡ length room
-fits (writes index sub bytes) room h = placed-length room 0 bytes (omega arith)
-fits (reads index sub) room h = refl
-fits (loads dcf) room h = placed-length room 0 dcf (omega arith)
+fits (writes mode index sub bytes) room h = placed-length room 0 bytes (omega arith)
+fits (reads mode index sub) room h = refl
+fits (loads mode dcf) room h = placed-length room 0 dcf (omega arith)
 
 module _ (job : Job) (c d : Connection) (t : ℕ) (n : Now) (room : Bytes) (e : startJob job c t n room ≡ Taken.Connection d) where
   abbrev Began : Taken → Type 0

@@ -19,6 +19,7 @@ pub mod OneAnswer
 pub mod OrderedTables
 pub mod OthersQuiet
 pub mod OutputSized
+pub mod PublishedKept
 pub mod ReadsBrought
 pub mod ReadsKept
 pub mod RefusalLeaves

@@ -8,23 +8,23 @@ use Rattle.manager.specs.Calls.{reads}
 use Rattle.theorems.specs.Figures.{AtEnd}
 use Rattle.theorems.specs.Run.{Event, Host, run}
 use Rattle.theorems.specs.Story.{Log, follow, untold}
-use Rattle.theorems.specs.Types.{Answer, Now, Outcome, Taken}
+use Rattle.theorems.specs.Types.{Answer, Mode, Now, Outcome, Taken}
 use Rattle.theorems.proofs.Followed.{Brings, Ended}
 use Rattle.theorems.proofs.JobKept.{Running}
 use Rattle.theorems.proofs.JobStarted.{after, brings, start, started}
 use Rattle.theorems.proofs.JobStarts.{began}
 use Rattle.theorems.proofs.ReadsKept.{ReadsEnd, ReadsRun, reads-kept}
 
-module _ (lent : Bytes) (earlier : List Event) (node index sub : ℕ) (now : Now)
-    (e : start lent earlier node (reads index sub) now .done .answer ≡ Answer.Nothing) where
+module _ (lent : Bytes) (earlier : List Event) (node : ℕ) (mode : Mode) (index sub : ℕ) (now : Now)
+    (e : start lent earlier node (reads mode index sub) now .done .answer ≡ Answer.Nothing) where
   abbrev Reads-so : Taken → Type 0
-  Reads-so (Taken.Connection d) = ReadsRun index sub untold (started lent earlier node (reads index sub) now e .room) (d .state) (d .job)
+  Reads-so (Taken.Connection d) = ReadsRun index sub untold (started lent earlier node (reads mode index sub) now e .room) (d .state) (d .job)
   Reads-so (Taken.Refused r) = Unit {0}
 
-  reading : Reads-so (Taken.Connection (started lent earlier node (reads index sub) now e .begun))
+  reading : Reads-so (Taken.Connection (started lent earlier node (reads mode index sub) now e .begun))
   reading =
-      let s = started lent earlier node (reads index sub) now e in
-      subst Reads-so (began (reads index sub) (s .before) (s .begun) (s .number) now (s .room) (s .is) .2)
+      let s = started lent earlier node (reads mode index sub) now e in
+      subst Reads-so (began (reads mode index sub) (s .before) (s .begun) (s .number) now (s .room) (s .is) .2)
       (record {
         reads = tt;
         pending = refl;
@@ -40,8 +40,8 @@ module _ (lent : Bytes) (earlier : List Event) (node index sub : ℕ) (now : Now
   Read l h = Brings [] (ReadsRun index sub) (ReadsEnd index sub) (reads-kept index sub) node l h
 
   pub read-brings : (later : List Event)
-      → Read (follow [] node untold (after lent earlier node (reads index sub) now) later) (run (after lent earlier node (reads index sub) now) later)
-  read-brings later = brings lent earlier node (reads index sub) now e [] (ReadsRun index sub) (ReadsEnd index sub) (reads-kept index sub) reading later
+      → Read (follow [] node untold (after lent earlier node (reads mode index sub) now) later) (run (after lent earlier node (reads mode index sub) now) later)
+  read-brings later = brings lent earlier node (reads mode index sub) now e [] (ReadsRun index sub) (ReadsEnd index sub) (reads-kept index sub) reading later
 
   pub read-figure : (l : Log) (h : Host) → Read l h → AtEnd (l .outcome) ((l .figure ≡ l .story .delivered) × (l .figure ≡ 0))
   read-figure l h = go (l .outcome)

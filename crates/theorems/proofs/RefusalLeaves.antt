@@ -51,7 +51,7 @@ untouched m store output x r e =
 -- a read puts back the bytes of its room
 pub reads-leave-store : ReadsLeaveStore
 unfolding ReadsLeaveStore
-reads-leave-store m store output node index sub now =
-    start-by m node (reads index sub) now store output
+reads-leave-store m store output node mode index sub now =
+    start-by m node (reads mode index sub) now store output
     (λ (k : Manager) (after out : Bytes) (x : Answer) (es : List End). after ≡ store) (λ r e. refl) (λ r e k f. refl)
     (λ k d long at e. put-back store long (heldAt m k)) (λ d long unheld few e. put-back store long (fresh m node)) (λ r e f unheld few. refl)

@@ -33,12 +33,12 @@ use Rattle.theorems.proofs.JobStarted.{after, brings, running, start, s
 
 -- ---- a job that sends
 start-of : (job : Sending) (c : Connection) (t : ℕ) (n : Now) (room : Bytes) → startJob (jobOf job) c t n room ≡ startOf c t n job room
-start-of (sendsWrite index sub bytes) c t n room = refl
-start-of (sendsDcf dcf) c t n room = refl
+start-of (sendsWrite mode index sub bytes) c t n room = refl
+start-of (sendsDcf mode dcf) c t n room = refl
 
 room-of : (job : Sending) (room : Bytes) → jobRoom (jobOf job) room ≡ placed room 0 (bytesOf job)
-room-of (sendsWrite index sub bytes) room = refl
-room-of (sendsDcf dcf) room = refl
+room-of (sendsWrite mode index sub bytes) room = refl
+room-of (sendsDcf mode dcf) room = refl
 
 -- where nothing was sent nothing is delivered
 none-yet : {a : Aim} {s : State} {t : LoadedTransfer} {offset : ℕ} {k : DcfCursor} {delivered : ℕ} {read : PendingRead} {size : ℕ}

@@ -40,9 +40,9 @@ use Rattle.theorems.proofs.WalkSteps.{StepBy, WalkBy, same-self, turn-s
 -- a job that starts is consistent with its bytes in the room
 pub started-sound : (job : Job) (c d : Connection) (t : ℕ) (n : Now) (room : Bytes) → startJob job c t n room ≡ Taken.Connection d
     → Consistent d (jobRoom job room)
-started-sound (writes index sub bytes) c d t n room e = begun-job c t n (sendsWrite index sub bytes) room d e .consistent
-started-sound (reads index sub) c d t n room e = read-sound c t n index sub room d e
-started-sound (loads dcf) c d t n room e = begun-job c t n (sendsDcf dcf) room d e .consistent
+started-sound (writes mode index sub bytes) c d t n room e = begun-job c t n (sendsWrite mode index sub bytes) room d e .consistent
+started-sound (reads mode index sub) c d t n room e = read-sound c t n mode index sub room d e
+started-sound (loads mode dcf) c d t n room e = begun-job c t n (sendsDcf mode dcf) room d e .consistent
 
 -- a step keeps node and room, and what is fit
 abbrev Keeps : Bytes → Connection → Connection → Type 0

@@ -6,7 +6,7 @@ use mathlib.Core.Bool.{Bool, true, false}
 use mathlib.Core.List.{List, [], _∷_}
 use mathlib.Core.Logic.{inl, inr}
 use lib.Dec.{eqb}
-use lib.ListN.{drop, getD, length, length-take}
+use lib.ListN.{drop, length, length-take}
 use borrow.Author.Tests.{eq-eqb}
 use Rattle.laws.specs.Pick.{pick}
 use Rattle.laws.proofs.Choices.{either}
@@ -22,7 +22,7 @@ use Rattle.connection.specs.Ask.{askOf}
 use Rattle.connection.specs.Tick.{tickOf}
 use Rattle.manager.proofs.ValueCases.{value-as, value-room}
 use Rattle.manager.specs.Calls.{After, Call, Job, called, loads, reads, replies, roomIn, starts, turns, writes}
-use Rattle.manager.specs.Value.{isComplete, objectAt, objectOf, uploadedPart, valueBy, valueFor, valueIn, valueOf}
+use Rattle.manager.specs.Value.{isComplete, objectAt, valueBy, valueFor, valueIn, valueOf}
 use Rattle.man_table.specs.Table.{findIn, live, oneFurther, roomSize, roomStart, storeSize}
 use Rattle.man_table.specs.Walk.{atTurn}
 use Rattle.theorems.specs.Demand.{jobOf}
@@ -34,6 +34,7 @@ use Rattle.theorems.specs.Types.{
   Answer,
   EndFound,
   Found,
+  Mode,
   Now,
   Outcome,
   PendingRead,
@@ -46,17 +47,17 @@ use Rattle.theorems.specs.Types.{
   StorePart,
   Turn,
 }
-use Rattle.theorems.specs.Values.{Concerns, EndsComplete, Handed, IsComplete, ObjectNamed, Values, ValuesAlone, ValuesWithin, bytes, dueBy, dueFor, handed, nothing}
+use Rattle.theorems.specs.Values.{Concerns, EndsComplete, IsComplete, ObjectNamed, Values, ValuesAlone, ValuesWithin, bytes, dueBy, dueFor, handed, nothing}
 use Rattle.theorems.proofs.AllReached.{all-sound, run-sound}
-use Rattle.theorems.proofs.Cases.{Of, Shown, found-as, not-refused, turn-by}
+use Rattle.theorems.proofs.Cases.{Shown, not-refused, turn-by}
 use Rattle.theorems.proofs.Followed.{On, OnBy, Onward, Still, reply-onward}
 use Rattle.theorems.proofs.JobKept.{Ending, Kept, Running}
 use Rattle.theorems.proofs.JobStarted.{after, running, start-sound, start}
 use Rattle.theorems.proofs.NodeAndRoom.{SameRead, replied-read}
 use Rattle.theorems.proofs.NodeSees.{event-view, held-is}
-use Rattle.theorems.proofs.NodeView.{Apart, IsRefused, NodeView, Seat, answers, begins, bytesIn, bytesOf, idles, rests, steps, unknown}
+use Rattle.theorems.proofs.NodeView.{Apart, IsRefused, NodeView, answers, begins, bytesIn, bytesOf, idles, rests, steps, unknown}
 use Rattle.theorems.proofs.ReadsBrought.{read-brings}
-use Rattle.theorems.proofs.ReadsKept.{AtComplete, ReadsEnd, ReadsRun, reads-kept}
+use Rattle.theorems.proofs.ReadsKept.{ReadsEnd, ReadsRun, reads-kept}
 use Rattle.theorems.proofs.Rooms.{roomAt}
 use Rattle.theorems.proofs.SendsDelivered.{a as aim, sends}
 use Rattle.theorems.proofs.SendsKept.{SendsEnd, SendsRun, sends-kept}
@@ -101,9 +102,9 @@ event-silent h x = go (x .lends)
 -- ---- a job, by what its connection's steps leave due
 -- no value is due while a job runs
 runs-on : (job : Job) (value : Bytes) → dueFor job EndFound.Running value ≡ nothing
-runs-on (writes index sub content) value = refl
-runs-on (reads index sub) value = refl
-runs-on (loads dcf) value = refl
+runs-on (writes mode index sub content) value = refl
+runs-on (reads mode index sub) value = refl
+runs-on (loads mode dcf) value = refl
 
 module _ (job : Job) (entries : List Bytes) (Runs : Running) (Ends : Ending) (kept : Kept entries Runs Ends)
     (turned : (s : Story) (c : Connection) (room : Bytes) → On entries Runs Ends kept s c room → (t : Turn) (n : Now) (d : Connection) (x : Sends)
@@ -163,8 +164,8 @@ module _ (job : Job) (entries : List Bytes) (Runs : Running) (Ends : Ending) (ke
 
 -- ---- a write and a DCF have no value
 none-due : (job : Sending) (e : EndFound) (value : Bytes) → dueFor (jobOf job) e value ≡ nothing
-none-due (sendsWrite index sub content) e value = refl
-none-due (sendsDcf dcf) e value = refl
+none-due (sendsWrite mode index sub content) e value = refl
+none-due (sendsDcf mode dcf) e value = refl
 
 none-brought : (d : Connection) → d .job .«pending_read» ≡ PendingRead.NoRead → NoValue (valueOf d)
 none-brought d p store = go (d .outcome)
@@ -177,17 +178,17 @@ none-brought d p store = go (d .outcome)
 reads-no : {index sub : ℕ} → PendingRead.Read index sub ≡ PendingRead.NoRead → ⊥
 reads-no e = let z : _≡_ {A = ℕ} 0 1 = cc e in absurd (omega arith)
 
-module _ (index sub : ℕ) where
+module _ (mode : Mode) (index sub : ℕ) where
   abbrev Going : Story → Connection → Bytes → Type 0
   Going s c room = On [] (ReadsRun index sub) (ReadsEnd index sub) (reads-kept index sub) s c room
 
   abbrev Due : Stepped → Type 0
-  Due (Stepped.Went x) = (value : Bytes) → dueFor (reads index sub) (endOf (x .connection)) value ≡ nothing
+  Due (Stepped.Went x) = (value : Bytes) → dueFor (reads mode index sub) (endOf (x .connection)) value ≡ nothing
   Due (Stepped.Refused r) = Unit {0}
 
   -- no turn ends it Complete
   module _ (s : Story) (c : Connection) (room : Bytes) (on : Going s c room) (n : Now) where
-    goes : (d : Connection) → d .outcome ≡ Outcome.Running → (value : Bytes) → dueFor (reads index sub) (endOf d) value ≡ nothing
+    goes : (d : Connection) → d .outcome ≡ Outcome.Running → (value : Bytes) → dueFor (reads mode index sub) (endOf d) value ≡ nothing
     goes d e value = rw e refl
 
     ask-due : Due (askOf c n)
@@ -211,14 +212,14 @@ module _ (index sub : ℕ) where
         go (late e h r k) = tt
 
   turn-due : (s : Story) (c : Connection) (room : Bytes) → Going s c room → (t : Turn) (n : Now) (d : Connection) (x : Sends)
-      → atTurn t c n ≡ Stepped.Went (record { connection = d; sends = x }) → (value : Bytes) → dueFor (reads index sub) (endOf d) value ≡ nothing
+      → atTurn t c n ≡ Stepped.Went (record { connection = d; sends = x }) → (value : Bytes) → dueFor (reads mode index sub) (endOf d) value ≡ nothing
   turn-due s c room on Turn.Asking n d x e = subst Due e (ask-due s c room on n)
   turn-due s c room on Turn.Ticking n d x e = subst Due e (tick-due s c room on n)
 
   -- what the reply that ends it Complete answers is what was brought
   reply-due : (s t : Story) (c d : Connection) (room store : Bytes) → Going s c room → SameRead c d
       → Onward [] (ReadsRun index sub) (ReadsEnd index sub) (reads-kept index sub) t (roomIn store c) d
-      → handed (valueOf d) store ≡ dueFor (reads index sub) (endOf d) (t .brought)
+      → handed (valueOf d) store ≡ dueFor (reads mode index sub) (endOf d) (t .brought)
   unfolding pick
   reply-due s t c d room store on same = go (d .outcome)
     where
@@ -239,7 +240,7 @@ module _ (index sub : ℕ) where
       by-reason Reason.BadSegment o = refl
 
       go : (x : Outcome) → OnBy [] (ReadsRun index sub) (ReadsEnd index sub) (reads-kept index sub) t (roomIn store c) d x
-          → handed (valueBy x d) store ≡ dueFor (reads index sub) (endWith d x) (t .brought)
+          → handed (valueBy x d) store ≡ dueFor (reads mode index sub) (endWith d x) (t .brought)
       go Outcome.Running o = refl
       go (Outcome.Ended why) o = by-reason why (subst (λ (b : Bytes). ReadsEnd index sub t b why (d .job)) there o)
 
@@ -267,18 +268,18 @@ sends-hands lent earlier node job now later x e r same =
 
 pub values : Values
 unfolding Values
-values lent earlier node (reads index sub) now later x e r same =
-    event-hands (reads index sub) [] (ReadsRun index sub) (ReadsEnd index sub) (reads-kept index sub) (turn-due index sub) (reply-due index sub) node
-    (log .story) before (run-sound later (after lent earlier node (reads index sub) now) (start-sound lent earlier node (reads index sub) now))
-    (running log before (read-brings lent earlier node index sub now e later) r) x same
+values lent earlier node (reads mode index sub) now later x e r same =
+    event-hands (reads mode index sub) [] (ReadsRun index sub) (ReadsEnd index sub) (reads-kept index sub) (turn-due mode index sub) (reply-due mode index sub) node
+    (log .story) before (run-sound later (after lent earlier node (reads mode index sub) now) (start-sound lent earlier node (reads mode index sub) now))
+    (running log before (read-brings lent earlier node mode index sub now e later) r) x same
   where
     before : Host
-    before = run (after lent earlier node (reads index sub) now) later
+    before = run (after lent earlier node (reads mode index sub) now) later
 
     log : Log
-    log = follow [] node untold (after lent earlier node (reads index sub) now) later
-values lent earlier node (writes index sub content) now later x e r same = sends-hands lent earlier node (sendsWrite index sub content) now later x e r same
-values lent earlier node (loads dcf) now later x e r same = sends-hands lent earlier node (sendsDcf dcf) now later x e r same
+    log = follow [] node untold (after lent earlier node (reads mode index sub) now) later
+values lent earlier node (writes mode index sub content) now later x e r same = sends-hands lent earlier node (sendsWrite mode index sub content) now later x e r same
+values lent earlier node (loads mode dcf) now later x e r same = sends-hands lent earlier node (sendsDcf mode dcf) now later x e r same
 
 -- ---- the object that the manager names
 found-there : (node : ℕ) (store : Bytes) (c : Connection) (room : Bytes) (l : List Connection) → holdingIn node l store ≡ connection c room
@@ -299,10 +300,10 @@ found-there node store c room (d ∷ l) e = go (eqb (d .«target_node_id») node
 
 pub object-named : ObjectNamed
 unfolding ObjectNamed
-object-named lent earlier node index sub now later e r =
-    let h : Host = run (after lent earlier node (reads index sub) now) later in
-    let log : Log = follow [] node untold (after lent earlier node (reads index sub) now) later in
-    let still = running log h (read-brings lent earlier node index sub now e later) r in
+object-named lent earlier node mode index sub now later e r =
+    let h : Host = run (after lent earlier node (reads mode index sub) now) later in
+    let log : Log = follow [] node untold (after lent earlier node (reads mode index sub) now) later in
+    let still = running log h (read-brings lent earlier node mode index sub now e later) r in
     found-there node (h .store) (still .held-by) (still .room) (live (h .manager)) (still .held) ∙ still .on .is .pending
 
 -- ---- nothing else answers a value

@@ -12,17 +12,17 @@ use Rattle.con_rec.specs.Deadline.{deadlineOf}
 use Rattle.con_reply.specs.Reply.{replyOf, roomFor}
 use Rattle.connection.specs.Start.{startDcf, startRead, startWrite, started}
 use Rattle.connection.specs.Tick.{tickOf}
-use Rattle.manager.specs.Calls.{called, loads, reads, replyFrom, seatIn, startOf, turnOf, writes}
+use Rattle.manager.specs.Calls.{called, loads, reads, replyFrom, seatIn, startOf, starts, turnOf, writes}
 use Rattle.manager.specs.Change.{changeDone, enteredAt, numberAfter}
 use Rattle.man_table.specs.Table.{freeRoom, storeSize, targetOf}
 use Rattle.theorems.specs.Edges.{first, p7, p8, second}
-use Rattle.theorems.specs.Types.{Answer, Outcome, Reason}
+use Rattle.theorems.specs.Types.{Answer, Mode, Outcome, Reason, Segmentation}
 use Rattle.theorems.specs.Run.{next, reached, starting}
 use Rattle.theorems.specs.Values.{bytes, nothing}
-use Rattle.theorems.specs.Worked.{disturbed, early, handedBy, ran, rounds, silent, uploaded, used, worked}
+use Rattle.theorems.specs.Worked.{byTurns, call, disturbed, early, handedBy, ran, rounds, sentKinds, silent, straddling, uploaded, used, worked}
 
 pub works :
-    map worked (loads p7 ∷ loads p8 ∷ loads (0 ∷ 0 ∷ 0 ∷ 0 ∷ []) ∷ writes 0x2100 1 (1 ∷ 4 ∷ []) ∷ [])
+    map worked (loads Mode.Repository p7 ∷ loads Mode.Repository p8 ∷ loads Mode.Repository (0 ∷ 0 ∷ 0 ∷ 0 ∷ []) ∷ writes Mode.Repository 0x2100 1 (1 ∷ 4 ∷ []) ∷ [])
     ≡ record { answer = Answer.Nothing; got = first ∷ second ∷ []; brought = []; outcome = Outcome.Ended Reason.Complete; figure = 2 }
     ∷ record { answer = Answer.Nothing; got = first ∷ []; brought = []; outcome = Outcome.Ended Reason.Cut; figure = 1 }
     ∷ record { answer = Answer.Nothing; got = []; brought = []; outcome = Outcome.Ended Reason.Complete; figure = 0 }
@@ -35,11 +35,11 @@ works = refl
 -- 3,000 bytes in three parts; a job on a node that was used before; one that is disturbed; a read in segments; and a node that answers no more
 pub works-on :
     (differs : length {A = ℕ} [] ≡ storeSize → ⊥)
-    → ran [] (writes 0x2100 1 (replicate 3000 7)) (rounds 4 0)
-    ∷ ran used (loads p7) (rounds 4 0)
-    ∷ ran [] (loads p7) (disturbed differs)
-    ∷ ran [] (reads 0x2100 1) uploaded
-    ∷ ran [] (loads p7) silent
+    → ran [] (writes Mode.Repository 0x2100 1 (replicate 3000 7)) (rounds 4 0)
+    ∷ ran used (loads Mode.Repository p7) (rounds 4 0)
+    ∷ ran [] (loads Mode.Repository p7) (disturbed differs)
+    ∷ ran [] (reads Mode.Repository 0x2100 1) uploaded
+    ∷ ran [] (loads Mode.Repository p7) silent
     ∷ []
     ≡ record { answer = Answer.Nothing; got = sentAs 0x2100 1 (replicate 3000 7) ∷ []; brought = []; outcome = Outcome.Ended Reason.Complete; figure = 1 }
     ∷ record { answer = Answer.Nothing; got = first ∷ second ∷ []; brought = []; outcome = Outcome.Ended Reason.Complete; figure = 2 }
@@ -57,9 +57,25 @@ unfolding pick among placed dcfStep bufferAfter askOf given deadlineOf replyOf r
     tickOf replyFrom seatIn startOf targetOf turnOf freeRoom called changeDone enteredAt numberAfter
 works-on differs = refl
 
+-- A table of 1,450 bytes for node 5 in published and for node 6 in repository mode, both at once: here its Complete follows an Initiate, there an Expedited.
+-- And the job that is disturbed, in published mode: the duplicate has an empty Complete sent.
+pub straddles :
+    (differs : length {A = ℕ} [] ≡ storeSize → ⊥)
+    → sentKinds 5 [] (straddling Mode.Published) (call (starts 6 (straddling Mode.Repository) early) ∷ byTurns 3 0)
+    ∷ sentKinds 6 (call (starts 5 (straddling Mode.Published) early) ∷ []) (straddling Mode.Repository) (byTurns 3 0)
+    ∷ sentKinds 5 [] (loads Mode.Published p7) (disturbed differs)
+    ∷ []
+    ≡ ((Segmentation.Expedited, 0) ∷ (Segmentation.Initiate, 1452) ∷ (Segmentation.Complete, 2) ∷ [])
+    ∷ ((Segmentation.Expedited, 0) ∷ (Segmentation.Expedited, 1452) ∷ (Segmentation.Complete, 2) ∷ [])
+    ∷ ((Segmentation.Expedited, 0) ∷ (Segmentation.Expedited, 6) ∷ (Segmentation.Complete, 0) ∷ (Segmentation.Expedited, 4) ∷ [])
+    ∷ []
+unfolding pick among placed dcfStep bufferAfter askOf given deadlineOf replyOf roomFor startDcf startRead startWrite started
+    tickOf replyFrom seatIn startOf targetOf turnOf freeRoom called changeDone enteredAt numberAfter
+straddles differs = refl
+
 -- the read in segments: its value is handed out after its last reply, and nothing before
 pub hands-out :
-    handedBy (next (reached (replicate 32768 0) []) (starting 5 (reads 0x2100 1) early)) uploaded
+    handedBy (next (reached (replicate 32768 0) []) (starting 5 (reads Mode.Repository 0x2100 1) early)) uploaded
     ≡ nothing ∷ nothing ∷ nothing ∷ nothing ∷ nothing ∷ nothing ∷ nothing ∷ bytes (1 ∷ 2 ∷ 3 ∷ 4 ∷ 5 ∷ []) ∷ []
 unfolding pick among partAt placed dcfStep bufferAfter askOf given deadlineOf replyOf roomFor startDcf startRead startWrite started
     tickOf replyFrom seatIn startOf targetOf turnOf freeRoom called changeDone enteredAt numberAfter

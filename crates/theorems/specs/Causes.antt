@@ -53,15 +53,15 @@ BusyAs Found.Absent m = ⊥
 
 -- DCF under 4 bytes
 abbrev pub Short : Job → Type 0
-Short (writes index sub bytes) = ⊥
-Short (reads index sub) = ⊥
-Short (loads dcf) = length dcf < 4
+Short (writes mode index sub bytes) = ⊥
+Short (reads mode index sub) = ⊥
+Short (loads mode dcf) = length dcf < 4
 
 -- Job bytes are the whole DCF, or a write's data plus its 4 head bytes.
 abbrev pub jobBytes : Job → ℕ
-jobBytes (writes index sub bytes) = 4 + length bytes
-jobBytes (reads index sub) = 0
-jobBytes (loads dcf) = length dcf
+jobBytes (writes mode index sub bytes) = 4 + length bytes
+jobBytes (reads mode index sub) = 0
+jobBytes (loads mode dcf) = length dcf
 
 abbrev pub jobChecks : Job → Now → List (Check Refusal)
 jobChecks job n =

@@ -14,8 +14,8 @@ use Rattle.theorems.specs.Types.{Answer, Now}
 
 -- a job that sends, as the start of the manager takes it
 abbrev pub jobOf : Sending → Job
-jobOf (writes index sub bytes) = startsWrite index sub bytes
-jobOf (loads dcf) = startsDcf dcf
+jobOf (writes mode index sub bytes) = startsWrite mode index sub bytes
+jobOf (loads mode dcf) = startsDcf mode dcf
 
 -- of any calls from a new manager, a start of a write or a DCF that is taken, and any calls and replies after it
 unfoldable pub Demand3 : Type 0

@@ -12,9 +12,9 @@ use Rattle.theorems.specs.Types.{Answer, Now, Outcome}
 
 -- the entries of a job: a read has none
 abbrev pub entriesIn : Job → List Bytes
-entriesIn (writes index sub bytes) = sentAs index sub bytes ∷ []
-entriesIn (reads index sub) = []
-entriesIn (loads dcf) = readableEntries dcf
+entriesIn (writes mode index sub bytes) = sentAs index sub bytes ∷ []
+entriesIn (reads mode index sub) = []
+entriesIn (loads mode dcf) = readableEntries dcf
 
 -- where the job ended, whatever the reason
 abbrev pub AtEnd : Outcome → Type 0 → Type 0
@@ -22,9 +22,9 @@ AtEnd Outcome.Running holds = Unit {0}
 AtEnd (Outcome.Ended why) holds = holds
 
 abbrev pub ForRead : Job → ℕ → Type 0
-ForRead (writes index sub bytes) figure = Unit {0}
-ForRead (reads index sub) figure = figure ≡ 0
-ForRead (loads dcf) figure = Unit {0}
+ForRead (writes mode index sub bytes) figure = Unit {0}
+ForRead (reads mode index sub) figure = figure ≡ 0
+ForRead (loads mode dcf) figure = Unit {0}
 
 unfoldable pub Figures : Type 0
 Figures =

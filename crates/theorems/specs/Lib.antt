@@ -3,6 +3,7 @@ pub mod Demand
 pub mod Edges
 pub mod Figures
 pub mod InPlace
+pub mod Published
 pub mod Quiet
 pub mod Reports
 pub mod Run

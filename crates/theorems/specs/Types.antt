@@ -13,6 +13,7 @@ pub use Rattle.con_rec.specs.declared.End.{End}
 pub use Rattle.con_rec.specs.declared.EndFound.{EndFound}
 pub use Rattle.con_rec.specs.declared.LoadedTransfer.{LoadedTransfer}
 pub use Rattle.con_rec.specs.declared.Moment.{Moment}
+pub use Rattle.con_rec.specs.declared.Mode.{Mode}
 pub use Rattle.con_rec.specs.declared.Now.{Now}
 pub use Rattle.con_rec.specs.declared.Outcome.{Outcome}
 pub use Rattle.con_rec.specs.declared.Outgoing.{Outgoing}

@@ -9,7 +9,7 @@ use Rattle.con_rec.specs.Record.{newConnection}
 use Rattle.manager.specs.Calls.{After, Call, called, numberOf, reads, replies, starts, takesNumber, turns}
 use Rattle.man_table.specs.Table.{findIn, freeRoom, insertIn, live, tableOf}
 use Rattle.theorems.specs.Run.{reported}
-use Rattle.theorems.specs.Types.{Answer, Found, Now, Refusal, SdoClientManager}
+use Rattle.theorems.specs.Types.{Answer, Found, Mode, Now, Refusal, SdoClientManager}
 
 -- the next number taken; for a node that is not held, with an Idle connection entered
 abbrev pub stepped : SdoClientManager → SdoClientManager
@@ -36,5 +36,5 @@ Untouched =
 -- a read changes no byte of the store, taken or refused
 unfoldable pub ReadsLeaveStore : Type 0
 ReadsLeaveStore =
-    (m : SdoClientManager) (store output : Bytes) (node index sub : ℕ) (now : Now)
-    → called m store output (starts node (reads index sub) now) .store ≡ store
+    (m : SdoClientManager) (store output : Bytes) (node : ℕ) (mode : Mode) (index sub : ℕ) (now : Now)
+    → called m store output (starts node (reads mode index sub) now) .store ≡ store

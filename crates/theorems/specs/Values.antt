@@ -12,7 +12,7 @@ use Rattle.man_table.specs.Table.{roomSize, storeSize}
 use Rattle.theorems.specs.Figures.{entriesIn}
 use Rattle.theorems.specs.Run.{Event, Host, made, next, reached, reported, run, starting}
 use Rattle.theorems.specs.Story.{Log, endFor, follow, told, untold}
-use Rattle.theorems.specs.Types.{Answer, End, EndFound, Now, Outcome, PendingRead, Reason, StorePart}
+use Rattle.theorems.specs.Types.{Answer, End, EndFound, Mode, Now, Outcome, PendingRead, Reason, StorePart}
 
 -- what the thin call hands out of a store for an answer: bytes for a value, for any other answer there is nothing to hand out
 pub data Handed : Type 0 where
@@ -30,10 +30,10 @@ abbrev pub dueBy : Reason → Bytes → Handed
 dueBy why brought = pick (isComplete why) (bytes brought) nothing
 
 abbrev pub dueFor : Job → EndFound → Bytes → Handed
-dueFor (writes index sub content) e brought = nothing
-dueFor (reads index sub) EndFound.Running brought = nothing
-dueFor (reads index sub) (EndFound.End e) brought = dueBy (e .reason) brought
-dueFor (loads dcf) e brought = nothing
+dueFor (writes mode index sub content) e brought = nothing
+dueFor (reads mode index sub) EndFound.Running brought = nothing
+dueFor (reads mode index sub) (EndFound.End e) brought = dueBy (e .reason) brought
+dueFor (loads mode dcf) e brought = nothing
 
 -- any call but a reply from another node, which may have its own value
 abbrev pub Concerns : ℕ → Call → Type 0
@@ -57,9 +57,9 @@ Values =
 -- and while a read runs, the object that the manager names for it is that of its start
 unfoldable pub ObjectNamed : Type 0
 ObjectNamed =
-    (lent : Bytes) (earlier : List Event) (node index sub : ℕ) (now : Now) (later : List Event)
+    (lent : Bytes) (earlier : List Event) (node : ℕ) (mode : Mode) (index sub : ℕ) (now : Now) (later : List Event)
     → let host : Host = reached lent earlier in
-    let start : Event = starting node (reads index sub) now in
+    let start : Event = starting node (reads mode index sub) now in
     let log : Log = follow [] node untold (next host start) later in
     made host start .done .answer ≡ Answer.Nothing → log .outcome ≡ Outcome.Running
     → objectOf (run (next host start) later .manager) node ≡ PendingRead.Read index sub

@@ -11,6 +11,7 @@ use Rattle.codec.specs.declared.sequence.SendConnState.{SendConnState}
 use Rattle.con_rec.specs.declared.Parameter.{Parameter}
 use Rattle.codec.specs.Bytes.{Bytes}
 use Rattle.con_reply.specs.Delivery.{pieces}
+use Rattle.con_reply.specs.Sent.{Sent}
 use Rattle.manager.specs.Calls.{Call, Job, loads, reads, replies, starts, turns, writes}
 use Rattle.man_table.specs.Table.{storeSize}
 use Rattle.theorems.specs.Figures.{entriesIn}
@@ -20,6 +21,7 @@ use Rattle.theorems.specs.Values.{Handed, handed}
 use Rattle.theorems.specs.Types.{
   Answer,
   CommandId,
+  Mode,
   Now,
   Outcome,
   SdoCommand,
@@ -104,7 +106,7 @@ call x = record { call = x; lends = own; output = replicate 1452 0 }
 
 -- earlier calls on the same node: a DCF without a count is refused and leaves an Idle connection, and a write comes to its end
 abbrev pub used : List Event
-used = call (starts 5 (loads []) early) ∷ call (starts 5 (writes 0x2101 0 (9 ∷ [])) early) ∷ rounds 2 0
+used = call (starts 5 (loads Mode.Repository []) early) ∷ call (starts 5 (writes Mode.Repository 0x2101 0 (9 ∷ [])) early) ∷ rounds 2 0
 
 -- a timeout repeat, a duplicate, calls that are refused (4, 1, 9), and the right replies; the duplicate has an empty Complete sent
 abbrev pub disturbed : (length {A = ℕ} [] ≡ storeSize → ⊥) → List Event
@@ -114,7 +116,7 @@ disturbed differs =
     ∷ call (replies 5 (good 0) nil [])
     ∷ call (turns Turn.Asking late)
     ∷ call (replies 5 (numbers 1 0) nil [])
-    ∷ call (starts 5 (reads 0x2100 1) late)
+    ∷ call (starts 5 (reads Mode.Repository 0x2100 1) late)
     ∷ record { call = turns Turn.Asking late; lends = own; output = [] }
     ∷ record { call = turns Turn.Asking late; lends = another [] differs; output = replicate 1452 0 }
     ∷ call (turns Turn.Asking late)
@@ -151,6 +153,30 @@ uploaded =
     ∷ call (turns Turn.Asking early)
     ∷ call (replies 5 (good 3) (kind Segmentation.Complete) (4 ∷ 5 ∷ []))
     ∷ []
+
+-- what ask gave the node, by kind and length
+abbrev pub kindsOf : List Sent → List (Segmentation × ℕ)
+kindsOf [] = []
+kindsOf (s ∷ l) = (s .kind, length (s .payload)) ∷ kindsOf l
+
+abbrev pub sentKinds : ℕ → List Event → Job → List Event → List (Segmentation × ℕ)
+sentKinds node earlier job later =
+    let host : Host = reached (replicate 32768 0) earlier in
+    kindsOf (follow (entriesIn job) node untold (next host (starting node job early)) later .story .asks)
+
+-- a table of 1,450 bytes: its total is 1,454
+abbrev pub straddling : Mode → Job
+straddling mode = writes mode 0x2100 1 (replicate 1450 7)
+
+-- nodes 5 and 6 are asked and answered by turns, an opening and two parts each
+abbrev pub byTurns : ℕ → ℕ → List Event
+byTurns zero k = []
+byTurns (suc more) k =
+    call (turns Turn.Asking early)
+    ∷ call (turns Turn.Asking early)
+    ∷ call (replies 5 (good k) nil [])
+    ∷ call (replies 6 (good k) nil [])
+    ∷ byTurns more (suc k)
 
 -- what is handed out after each call
 abbrev pub handedBy : Host → List Event → List Handed

@@ -1,7 +1,7 @@
 //! The capture of document 01's run, octet by octet; frames at both ends of their lengths; lines that
 //! are none of the replay's.
 
-use capture::{capture, Bad};
+use capture::{capture, Bad, Flags};
 
 const DOCUMENT_01: &str = "\
 1 1 0 - - -
@@ -21,7 +21,16 @@ fn bytes(hex: &str) -> Vec<u8> {
 }
 
 fn captured(lines: &str) -> Vec<u8> {
-    capture(lines.as_bytes()).unwrap_or_else(|bad| panic!("{bad}"))
+    captured_with(lines, Flags::AsSent)
+}
+
+fn captured_with(lines: &str, flags: Flags) -> Vec<u8> {
+    capture(lines.as_bytes(), flags).unwrap_or_else(|bad| panic!("{bad}"))
+}
+
+/// Why the lines are not captured.
+fn bad(lines: &[u8]) -> Option<Bad> {
+    capture(lines, Flags::AsSent).err()
 }
 
 #[test]
@@ -52,6 +61,19 @@ fn the_length_of_a_frame() {
     }
 }
 
+/// A timeout's abort: of the whole file one octet is another.
+#[test]
+fn published_flags() {
+    let line = "8 5 0 5 02080000000120000400000000000405 5:T:0\n";
+    let [sent, published] =
+        [Flags::AsSent, Flags::Published].map(|flags| captured_with(line, flags));
+    let place = 24 + 16 + 18 + 6;
+    let mut expected = sent.clone();
+    expected[place] = 0x40;
+    assert_eq!(sent[place], 0x20);
+    assert_eq!(published, expected);
+}
+
 #[test]
 fn lines_that_send_nothing() {
     for lines in [
@@ -70,10 +92,10 @@ fn lines_that_send_nothing() {
 fn lines_that_are_none_of_the_replays() {
     let lines = format!("{DOCUMENT_01}\n1 6 0 5 FC0 -\n");
     let (line, expected) = (7, "bytes in hex fifth");
-    assert_eq!(capture(lines.as_bytes()), Err(Bad { line, expected }));
+    assert_eq!(bad(lines.as_bytes()), Some(Bad { line, expected }));
     let (line, expected) = (1, "a text in UTF-8, not UTF-16");
-    assert_eq!(capture(b"\xFF\xFE1\0"), Err(Bad { line, expected }));
+    assert_eq!(bad(b"\xFF\xFE1\0"), Some(Bad { line, expected }));
     let long = format!("1 6 0 5 {} -", "00".repeat(1_497));
     let (line, expected) = (1, "no more bytes than an Ethernet frame takes");
-    assert_eq!(capture(long.as_bytes()), Err(Bad { line, expected }));
+    assert_eq!(bad(long.as_bytes()), Some(Bad { line, expected }));
 }

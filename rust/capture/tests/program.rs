@@ -28,13 +28,24 @@ fn the_programs_arguments() {
     let help = run(&["--help"], b"");
     assert_eq!(help.status.code(), Some(0));
     assert!(help.stdout.starts_with(b"usage: capture"));
-    for arguments in [&["file"][..], &["--help", "file"]] {
+    let published = run(&["--published-flags"], b"1 6 0 5 0207000000018001 -\n");
+    assert_eq!(published.status.code(), Some(0));
+    assert_eq!(
+        published.stdout[24 + 16 + 18..][..8],
+        *b"\x02\x07\0\0\0\x01\x20\x01"
+    );
+    for arguments in [
+        &["file"][..],
+        &["--help", "file"],
+        &["--published-flags", "file"],
+    ] {
         let output = run(arguments, b"");
         assert_eq!(output.status.code(), Some(2));
         assert!(output.stdout.is_empty());
         let told = format!(
-            "capture: expected no arguments, as the lines are standard input, or --help alone; \
-             found '{}'\nusage: capture < LINES > PCAP\ncapture --help tells more\n",
+            "capture: expected no arguments, as the lines are standard input, or one of \
+             --published-flags, --help; found '{}'\nusage: capture [--published-flags] < LINES > PCAP\n\
+             capture --help tells more\n",
             arguments[0]
         );
         assert_eq!(String::from_utf8(output.stderr).unwrap(), told);

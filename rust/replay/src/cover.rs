@@ -3,12 +3,14 @@
 
 use crate::counts::Counts;
 use crate::generate::{self, Run};
+use crate::head::Modes;
 use record::{MOST_RECORDS, RECORD_BYTES};
 use std::io;
 
 /// What traces reached together, and how much there was of them.
 #[derive(Default)]
 pub struct Covered {
+    modes: Modes,
     pub counts: Counts,
     traces: usize,
     records: usize,
@@ -16,19 +18,26 @@ pub struct Covered {
 
 impl Covered {
     pub fn text(&self) -> String {
-        let (table, traces, records) = (self.counts.text(), self.traces, self.records);
-        format!("{table}{traces} traces, {records} records\n")
+        self.counts.text(self.modes) + &self.size()
+    }
+
+    pub fn size(&self) -> String {
+        format!("{} traces, {} records\n", self.traces, self.records)
     }
 }
 
 /// Makes traces from the first seed on until they have so many records, and hands each over with its
 /// name; the last is the longest one, if it is not more than was asked for.
 pub fn each_trace(
+    modes: Modes,
     records: usize,
     first_seed: u64,
     mut take: impl FnMut(&str, &Run) -> io::Result<()>,
 ) -> io::Result<Covered> {
-    let mut covered = Covered::default();
+    let mut covered = Covered {
+        modes,
+        ..Covered::default()
+    };
     let mut hand_over = |name: &str, run: Result<Run, String>| {
         let run = run.map_err(|error| io::Error::other(format!("{name}: {error}")))?;
         let made = run.records.len() / RECORD_BYTES;
@@ -47,11 +56,11 @@ pub fn each_trace(
         if left == 0 {
             break;
         }
-        let made = hand_over(&format!("seed {seed}"), generate::drawn(seed))?;
+        let made = hand_over(&format!("seed {seed}"), generate::drawn(modes, seed))?;
         left = left.saturating_sub(made);
     }
     if records >= longest {
-        hand_over("the longest trace", generate::longest())?;
+        hand_over("the longest trace", generate::longest(modes))?;
     }
     Ok(covered)
 }

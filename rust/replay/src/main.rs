@@ -1,5 +1,7 @@
 //! The repository's manager as a replay, and our replay programs against it. USAGE has the modes.
 
+#[cfg(has_oracle)]
+use replay_oracle::head::Modes;
 use std::env;
 use std::io::{self, ErrorKind, Write};
 use std::process::ExitCode;
@@ -7,16 +9,18 @@ use std::process::ExitCode;
 const USAGE: &str = "\
 usage: replay_oracle MODE
   plain                   a trace on standard input, document 01's lines on standard output
-  state                   the same with ten bytes of parameters ahead of the trace, and a state line
-                          after each line
+  state                   the same with eleven bytes ahead of the trace (parameters, modes), and a state
+                          line after each line
   values                  a trace on standard input, a line for each read that ends Complete: record,
                           node, object, data
-  cover RECORDS [SEED]    the generator and the oracle alone: how often each rule is reached
+  cover RECORDS [SEED]    the generator and the oracle alone, in both modes: how often each rule is
+                          reached
   compare RECORDS [SEED]  our replay_states, replay and values on drawn traces of so many records, from
-                          a first seed on, line by line against the oracle
-  trace SEED | longest | values
-                          the drawn trace of a seed, or one of 65,535 records and more: of any kind, or
-                          about values; with the parameters ahead
+                          a first seed on, line by line against the oracle; then replay_states on as
+                          many in published mode
+  trace SEED [published] | longest [published] | values
+                          the drawn trace of a seed, or one of 65,535 records and more: of any kind (in
+                          published mode: about parts), or about values; with the eleven bytes ahead
   fixed CRATES            writes the sample of traces and lines that runs without Rust
   drawn CRATES            writes the long trace and its lines that the gate runs
 exit status: 0 all is well, 1 it is not";
@@ -48,7 +52,7 @@ fn main() -> ExitCode {
 /// Answers whether all is well.
 #[cfg(has_oracle)]
 fn run(arguments: &[&str]) -> io::Result<bool> {
-    use replay_oracle::{compare, cover, fixed, generate, stream};
+    use replay_oracle::{compare, cover, fixed, stream};
     use std::path::Path;
 
     let mut output = io::stdout().lock();
@@ -58,20 +62,17 @@ fn run(arguments: &[&str]) -> io::Result<bool> {
             return compare::run(number(records)?, number(seed)?, &mut output)
         }
         ["cover", records, seed] => {
-            let covered = cover::each_trace(number(records)?, number(seed)?, |_, _| Ok(()))?;
-            output.write_all(covered.text().as_bytes())?;
+            for modes in [Modes::REPOSITORY, Modes::PUBLISHED] {
+                let (records, seed) = (number(records)?, number(seed)?);
+                let covered = cover::each_trace(modes, records, seed, |_, _| Ok(()))?;
+                output.write_all(covered.text().as_bytes())?;
+            }
         }
         ["plain"] => stream::plain(io::stdin().lock(), &mut output)?,
         ["state"] => stream::with_state(io::stdin().lock(), &mut output)?,
         ["values"] => stream::values(io::stdin().lock(), &mut output)?,
-        ["trace", which] => {
-            let run = match *which {
-                "longest" => generate::longest(),
-                "values" => generate::longest_about_values(),
-                seed => generate::drawn(number(seed)?),
-            };
-            output.write_all(&run.map_err(io::Error::other)?.with_parameters())?;
-        }
+        ["trace", which] => output.write_all(&trace(which, Modes::REPOSITORY)?)?,
+        ["trace", which, "published"] => output.write_all(&trace(which, Modes::PUBLISHED)?)?,
         ["fixed", crates] => {
             let table = fixed::write(Path::new(crates)).map_err(io::Error::other)?;
             output.write_all(table.as_bytes())?;
@@ -84,6 +85,19 @@ fn run(arguments: &[&str]) -> io::Result<bool> {
     }
     output.flush()?;
     Ok(true)
+}
+
+/// A drawn trace with its head.
+#[cfg(has_oracle)]
+fn trace(which: &str, modes: Modes) -> io::Result<Vec<u8>> {
+    use replay_oracle::generate;
+
+    let run = match which {
+        "longest" => generate::longest(modes),
+        "values" if !modes.published => generate::longest_about_values(),
+        seed => generate::drawn(modes, number(seed)?),
+    };
+    Ok(run.map_err(io::Error::other)?.with_head())
 }
 
 #[cfg(has_oracle)]

@@ -1,5 +1,5 @@
-//! Timeout and retries: the ten bytes ahead of a trace that has them (for each a byte that says whether it
-//! is present, and its number, low byte first), and the timeout where it is absent.
+//! Timeout and retries: their ten bytes at the head of a trace that has one (for each a byte that says
+//! whether it is present, and its number, low byte first), and the timeout where it is absent.
 
 use oracle::ObjectDictionary;
 

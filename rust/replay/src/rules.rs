@@ -1,14 +1,41 @@
-//! Document 01's rules, one by one as a trace can reach them.
+//! Document 01's rules, one by one as a trace can reach them, and those that published mode has instead.
 
-/// Declares the rules once: their names, and the table that is printed.
+use crate::head::Modes;
+
+/// A group, a rule of it, and its words.
+pub type Row = (&'static str, Rule, &'static str);
+
+/// Declares the rules once: their names, and the tables that are printed.
 macro_rules! rules {
-    ($($group:literal { $($rule:ident $text:literal)+ })+) => {
+    (
+        $($group:literal { $($rule:ident $text:literal)+ })+
+        published $($other:literal { $($more:ident $words:literal)+ })+
+    ) => {
         #[derive(Debug, Clone, Copy, PartialEq, Eq)]
-        pub enum Rule { $($($rule,)+)+ }
+        pub enum Rule { $($($rule,)+)+ $($($more,)+)+ }
 
-        /// Group, rule, and its words.
-        pub const RULES: &[(&str, Rule, &str)] = &[$($(($group, Rule::$rule, $text),)+)+];
+        /// Document 01's.
+        pub const RULES: &[Row] = &[$($(($group, Rule::$rule, $text),)+)+];
+        /// Those that only a run in published mode reaches.
+        pub const PUBLISHED: &[Row] = &[$($(($other, Rule::$more, $words),)+)+];
     };
+}
+
+/// Document 01's rules that no run in published mode may reach: there an Expedited has everything.
+pub const NOT_PUBLISHED: [Rule; 2] = [Rule::PartExpeditedFirst, Rule::PartCompleteAfterExpedited];
+
+/// The rules that runs in this mode are for.
+pub fn rules_of(modes: Modes) -> &'static [Row] {
+    match modes.published {
+        false => RULES,
+        true => PUBLISHED,
+    }
+}
+
+/// Document 01's rules: those that a run in published mode may reach, and the others.
+pub fn parted_by_published() -> (Vec<Row>, Vec<Row>) {
+    let rules = RULES.iter();
+    rules.partition(|(_, rule, _)| !NOT_PUBLISHED.contains(rule))
 }
 
 rules! {
@@ -243,5 +270,20 @@ rules! {
         Retries1 "retries 1"
         Retries2 "retries 2"
         RetriesLarge "retries 3 and more"
+    }
+    published "Parts in published mode" {
+        PublishedWrite "Initiate with the first 1,452 of 1,453 to 1,456, of a write"
+        PublishedEntry "Initiate with the first 1,452 of 1,453 to 1,456, of a DCF's entry"
+        PublishedRepeated "Initiate with the first 1,452 of 1,453 to 1,456, repeated by a tick"
+        PublishedComplete "Complete with the rest of 1,453 to 1,456, after its Initiate"
+        PublishedCompleteRepeated "Complete with the rest of 1,453 to 1,456, repeated by a tick"
+        PublishedEmpty "an empty Complete behind the Complete of 1,453 to 1,456, after a duplicate number"
+        PublishedEmptyAfterExpedited "an empty Complete directly behind an Expedited, after a duplicate number"
+        Published1452 "total 1,452: Expedited"
+        Published1453 "total 1,453: Initiate, data size 1,449"
+        Published1456 "total 1,456: Initiate, data size 1,452"
+        Published1457 "total 1,457: Initiate, data size 1,453"
+        Published2904 "total 2,904: Initiate, data size 2,900"
+        Published2905 "total 2,905: Initiate, data size 2,901"
     }
 }

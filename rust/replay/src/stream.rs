@@ -3,8 +3,8 @@
 
 use crate::client::{Answer, Client};
 use crate::gather::{Gather, Turn};
+use crate::head::{Head, HEAD_BYTES};
 use crate::line;
-use crate::parameters::{self, PARAMETER_BYTES};
 use crate::refusal::Refusal;
 use crate::watched::Watched;
 use oracle::ObjectDictionary;
@@ -43,17 +43,16 @@ pub fn plain(input: impl Read, output: impl Write) -> io::Result<()> {
     })
 }
 
-/// Two lines a record. The input begins with the parameters.
+/// Two lines a record. The input begins with the head.
 pub fn with_state(mut input: impl Read, output: impl Write) -> io::Result<()> {
-    let mut head = [0; PARAMETER_BYTES];
+    let mut head = [0; HEAD_BYTES];
     let read = input.read_exact(&mut head);
     read.map_err(|error| {
-        io::Error::new(
-            error.kind(),
-            format!("the ten bytes of parameters: {error}"),
-        )
+        let told = format!("the eleven bytes ahead of the records: {error}");
+        io::Error::new(error.kind(), told)
     })?;
-    let mut watched = Watched::new(parameters::read(&head));
+    let head = Head::read(&head).map_err(io::Error::other)?;
+    let mut watched = Watched::new(head);
     run(input, output, |_, next, lines| match next {
         Next::Short => {
             watched.short(lines);
@@ -68,7 +67,7 @@ pub fn with_state(mut input: impl Read, output: impl Write) -> io::Result<()> {
 
 /// A line for each read that ends Complete, with both parameters absent.
 pub fn values(input: impl Read, output: impl Write) -> io::Result<()> {
-    let mut watched = Watched::new(ObjectDictionary::default());
+    let mut watched = Watched::new(Head::default());
     // The lines of a record, which nobody wants here.
     let mut unwanted = Vec::new();
     run(input, output, |number, next, lines| {

@@ -2,11 +2,12 @@
 
 use crate::client::{Answer, Client, Outcome};
 use crate::gather::{Gather, Turn};
+use crate::head::{Head, Modes};
 use crate::line;
 use crate::mirror::Mirrors;
+use crate::published::{self, PUBLISHED_LIMIT};
 use crate::refusal::Refusal;
 use crate::table::Table;
-use oracle::ObjectDictionary;
 use record::{Record, RecordBytes, OPERATION};
 use replay_line::Value;
 
@@ -28,16 +29,18 @@ pub struct Watched {
     client: Client,
     gather: Gather,
     mirrors: Mirrors,
+    modes: Modes,
     table: Table,
     number: u32,
 }
 
 impl Watched {
-    pub fn new(parameters: ObjectDictionary) -> Self {
+    pub fn new(head: Head) -> Self {
         Self {
-            client: Client::new(parameters),
+            client: Client::new(head.parameters),
             gather: Gather::default(),
-            mirrors: Mirrors::new(parameters),
+            mirrors: Mirrors::new(head.parameters),
+            modes: head.modes,
             table: Table::default(),
             number: 0,
         }
@@ -48,8 +51,8 @@ impl Watched {
         &self.table
     }
 
-    /// Takes a record and puts its two lines. An error says that the ledger, or a mirror, and the
-    /// repository do not agree.
+    /// Takes a record and puts its two lines. An error says that the ledger, a mirror, or the parts of a
+    /// transfer, and the repository do not agree.
     pub fn step(&mut self, bytes: &RecordBytes, out: &mut Vec<u8>) -> Result<Step, String> {
         let gathered = self.gather.len();
         let before = self.table.clone();
@@ -59,11 +62,12 @@ impl Watched {
             Turn::Refused(refusal) => Err(*refusal),
             Turn::Gathered => Ok(Answer::default()),
             Turn::Call(call) => {
-                let outcome = self.client.call(call.clone());
+                let mut outcome = self.client.call(call.clone());
                 // The library was called, so the table may be another.
                 self.table = self.client.checked_table()?;
-                if let Ok(answer) = &outcome {
+                if let Ok(answer) = &mut outcome {
                     read = self.mirrors.follow(call, answer, &self.table)?;
+                    self.cut(answer)?;
                 }
                 outcome
             }
@@ -79,6 +83,16 @@ impl Watched {
             next: self.client.next_action_time(),
             read,
         })
+    }
+
+    /// The command that was sent, as the mode has it.
+    fn cut(&self, answer: &mut Answer) -> Result<(), String> {
+        match &mut answer.sent {
+            Some(sent) if self.modes.published => {
+                published::cut_anew(sent, &self.table, PUBLISHED_LIMIT)
+            }
+            _ => Ok(()),
+        }
     }
 
     /// The input ended inside a record.

@@ -1,5 +1,5 @@
 //! The comparison itself, with the oracle in the place of our programs: it passes, and a program that
-//! is wrong, missing or broken fails it; so does a run that compares nothing.
+//! is wrong, missing or broken fails it; so does a run that compares nothing, or too little.
 
 #![cfg(all(has_oracle, unix))]
 
@@ -55,7 +55,9 @@ fn the_oracle_is_like_itself() {
     let (passed, text) = compared(&oracles("same"));
     assert!(passed, "{text}");
     assert!(!text.contains("DIFFERENCE"), "{text}");
-    assert_eq!(text.matches("traces that differ: 0\n").count(), 3, "{text}");
+    assert_eq!(text.matches("traces that differ: 0\n").count(), 4, "{text}");
+    assert!(text.contains("\nreplay_states, published mode: "), "{text}");
+    assert!(text.contains("\n13 rules, 0 never reached\n"), "{text}");
     assert!(text.contains("reads that ended Complete in the traces compared\n"));
 }
 
@@ -114,10 +116,28 @@ fn nothing_to_compare() {
     let output = compare(&oracles("nothing"), "0").output().unwrap();
     assert_eq!(output.status.code(), Some(1));
     let text = String::from_utf8(output.stdout).unwrap();
-    for name in ["replay_states", "replay", "values"] {
+    for name in [
+        "replay_states",
+        "replay",
+        "values",
+        "replay_states, published mode",
+    ] {
         let told = format!("NOT COMPARED: no trace has a line for {name}\n");
         assert!(text.contains(&told), "{text}");
     }
+}
+
+/// No line differs; why it fails is told last.
+#[test]
+fn too_little_in_published_mode() {
+    let output = compare(&oracles("little"), "1000").output().unwrap();
+    assert_eq!(output.status.code(), Some(1));
+    let text = String::from_utf8(output.stdout).unwrap();
+    assert!(!text.contains("DIFFERENCE"), "{text}");
+    let told = "\nNOT ENOUGH: rules of published mode were never reached\n";
+    let (_, rules) = text.split_once(told).unwrap();
+    assert!(rules.starts_with("  Parts in published mode: "), "{rules}");
+    assert!(rules.lines().all(|rule| rule.starts_with("  ")), "{rules}");
 }
 
 /// Only `values` is wrong, so that what it prints alone fails the comparison.
@@ -138,6 +158,28 @@ fn values_that_are_wrong() {
         let (passed, text) = compared(&folder);
         assert!(!passed, "{name}");
         assert!(text.contains("DIFFERENCE in values, seed "), "{text}");
-        assert_eq!(text.matches("traces that differ: 0\n").count(), 2, "{text}");
+        assert_eq!(text.matches("traces that differ: 0\n").count(), 3, "{text}");
+    }
+}
+
+/// Only the mode is wrong, in one of the two that replay_states is run in.
+#[test]
+fn a_program_that_knows_one_mode() {
+    for (name, byte, differs) in [
+        ("mode-0", "\\000", "replay_states, published mode"),
+        ("mode-1", "\\001", "replay_states"),
+    ] {
+        let folder = oracles(name);
+        let ahead = format!("head -c 10; head -c 1 > /dev/null; printf '{byte}'; cat");
+        fs::write(
+            folder.join("replay_states"),
+            format!("#!/bin/sh\n{{ {ahead}; }} | {ORACLE} state\n"),
+        )
+        .unwrap();
+        let (passed, text) = compared(&folder);
+        assert!(!passed, "{name}");
+        let told = format!("DIFFERENCE in {differs}, seed ");
+        assert!(text.contains(&told), "{text}");
+        assert_eq!(text.matches("traces that differ: 0\n").count(), 3, "{text}");
     }
 }

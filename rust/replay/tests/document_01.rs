@@ -52,7 +52,7 @@ fn the_run() {
 #[test]
 fn empty_input() {
     assert_eq!(printed("plain", &[]), "");
-    assert_eq!(printed("state", &[0; 10]), "");
+    assert_eq!(printed("state", &[0; 11]), "");
 }
 
 #[test]
@@ -97,7 +97,7 @@ fn the_ninth_node() {
 #[test]
 fn retries_0_and_a_tick_at_the_deadline_before_any_send() {
     // Timeout 15,000 milliseconds, retries 0; the ticks are just before 15,000,000 and at it.
-    let mut trace = vec![1, 0x98, 0x3A, 0, 0, 1, 0, 0, 0, 0];
+    let mut trace = vec![1, 0x98, 0x3A, 0, 0, 1, 0, 0, 0, 0, 0];
     trace.extend(record(&[2, 5]));
     trace.extend(record(&[5, 0, 0, 0, 0, 0, 0xBF, 0xE1, 0xE4]));
     trace.extend(record(&[5, 0, 0, 0, 0, 0, 0xC0, 0xE1, 0xE4]));

@@ -3,6 +3,7 @@
 
 #![cfg(has_oracle)]
 
+use replay_oracle::head::Modes;
 use replay_oracle::rules::Rule;
 use replay_oracle::{fixed, generate, stream};
 use std::fs;
@@ -39,10 +40,12 @@ fn the_files_are_those_that_stand_here() {
 #[test]
 fn they_reach_every_other_rule_in_a_few_thousand_records() {
     let (files, counts) = fixed::files().unwrap();
-    assert_eq!(counts.missing(), NOT_REACHED);
+    let [repository, published] = counts;
+    assert_eq!(repository.missing(Modes::REPOSITORY), NOT_REACHED);
+    assert_eq!(published.missing(Modes::PUBLISHED), []);
     let traces = files.iter().filter(|(name, _)| name.ends_with("/stdin"));
     let records: usize = traces.map(|(_, trace)| trace.len() / 32).sum();
-    assert!(records < 7_000, "{records}");
+    assert!(records < 9_000, "{records}");
 }
 
 #[test]
@@ -50,7 +53,11 @@ fn the_oracle_as_a_stream_says_the_same() {
     let mut lines = Vec::new();
     stream::plain(&file("replay_fixed/stdin")[..], &mut lines).unwrap();
     assert!(lines == file("replay_fixed/stdout"));
-    for name in ["replay_states", "replay_states_retries"] {
+    for name in [
+        "replay_states",
+        "replay_states_retries",
+        "replay_states_published",
+    ] {
         let mut lines = Vec::new();
         stream::with_state(&file(&format!("{name}/stdin"))[..], &mut lines).unwrap();
         assert!(lines == file(&format!("{name}/stdout")), "{name}");

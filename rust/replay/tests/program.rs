@@ -40,12 +40,41 @@ fn help() {
 }
 
 #[test]
-fn parameters_that_are_cut() {
-    let output = program::run(&mut command("state"), &[0; 9]).unwrap();
+fn a_head_that_is_cut() {
+    let output = program::run(&mut command("state"), &[0; 10]).unwrap();
     assert_eq!(output.status.code(), Some(1));
     assert!(output.stdout.is_empty());
-    let told = b"replay_oracle: the ten bytes of parameters: ";
+    let told = b"replay_oracle: the eleven bytes ahead of the records: ";
     assert!(output.stderr.starts_with(told));
+}
+
+#[test]
+fn modes_that_there_are_not() {
+    let told = "replay_oracle: the eleventh byte ahead of the records must be 0 or 1\n";
+    for (modes, status, stderr) in [(0, 0, ""), (1, 0, ""), (2, 1, told), (0x81, 1, told)] {
+        let mut input = [0; 11 + 32];
+        input[10] = modes;
+        let output = program::run(&mut command("state"), &input).unwrap();
+        assert_eq!(output.status.code(), Some(status), "{modes}");
+        assert_eq!(output.stdout.is_empty(), status == 1, "{modes}");
+        assert_eq!(String::from_utf8(output.stderr).unwrap(), stderr);
+    }
+}
+
+#[test]
+fn drawn_traces() {
+    let printed = |words: &[&str]| {
+        let mut command = command("trace");
+        let output = program::run(command.args(words), b"").unwrap();
+        assert_eq!(output.status.code(), Some(0), "{words:?}");
+        output.stdout
+    };
+    let [theirs, published] = [&["2"][..], &["2", "published"]].map(printed);
+    assert_eq!([theirs[10], published[10]], [0, 1]);
+    // Seed 2 has no theme of a mode's own, so both modes draw the same.
+    assert_eq!(theirs[11..], published[11..]);
+    let [theirs, published] = [&["longest"][..], &["longest", "published"]].map(printed);
+    assert!(theirs[11..] != published[11..]);
 }
 
 #[test]

@@ -9,6 +9,8 @@ use rng::Rng;
 
 /// Totals at which the parts change, and the longest job.
 const EDGES: [usize; 4] = [1_452, 1_456, 2_904, 4_096];
+/// Totals around the limits of a first part, and those around two full parts.
+const AROUND_LIMITS: [usize; 8] = [1_452, 1_453, 1_454, 1_455, 1_456, 1_457, 2_904, 2_905];
 /// The longest payload that gather and record hold together.
 pub const MOST_PAYLOAD: usize = MOST_BYTES + MOST_DATA;
 
@@ -48,6 +50,11 @@ pub fn edge_length(rng: &mut Rng) -> usize {
     (total - head).min(MOST_PAYLOAD)
 }
 
+/// A write's data, of a length whose total lies around the limits of a first part.
+pub fn length_around_limits(rng: &mut Rng) -> usize {
+    rng.pick(&AROUND_LIMITS) - SENT_HEAD
+}
+
 /// How many bytes a reply brings to an upload that has some already. Every sixteen bytes take a record, so
 /// long ones are few: sixteen in so many.
 pub fn upload_length(rng: &mut Rng, uploaded: usize, many: usize) -> usize {
@@ -71,7 +78,8 @@ fn put_entry(rng: &mut Rng, dcf: &mut Vec<u8>, length: usize) {
     dcf.extend(rng.bytes(length));
 }
 
-fn counted(rng: &mut Rng, lengths: &[usize]) -> Vec<u8> {
+/// A whole DCF whose entries have data of these lengths.
+pub fn counted(rng: &mut Rng, lengths: &[usize]) -> Vec<u8> {
     let mut dcf = (lengths.len() as u32).to_le_bytes().to_vec();
     for length in lengths {
         put_entry(rng, &mut dcf, *length);
@@ -97,6 +105,12 @@ pub fn many_entries(rng: &mut Rng, entries: usize) -> Vec<u8> {
 /// A whole DCF with an entry whose total is near one of the edges, and short ones around it.
 pub fn long_dcf(rng: &mut Rng) -> Vec<u8> {
     let lengths = [rng.below(3), edge_length(rng).min(3_000), rng.below(3)];
+    counted(rng, &lengths)
+}
+
+/// A whole DCF with an entry whose total lies around the limits of a first part, and short ones around it.
+pub fn dcf_around_limits(rng: &mut Rng) -> Vec<u8> {
+    let lengths = [rng.below(3), length_around_limits(rng), rng.below(3)];
     counted(rng, &lengths)
 }
 

@@ -3,13 +3,13 @@
 
 use super::Run;
 use crate::client::MOST_BYTES;
+use crate::head::Head;
 use crate::line;
 use crate::observe::Observer;
 use crate::parameters;
 use crate::rules::Rule;
 use crate::table::{Held, State, Table};
 use crate::watched::Watched;
-use oracle::ObjectDictionary;
 use record::{Operation, Record, RecordBytes, LENGTH, MOST_DATA, MOST_RECORDS, RESPONSE};
 use rng::Rng;
 
@@ -41,7 +41,7 @@ pub struct Stage {
     pub now: u64,
     /// Whether bytes that a record does not use are drawn, and gathers have drawn lengths.
     pub loose: bool,
-    parameters: ObjectDictionary,
+    head: Head,
     watched: Watched,
     observer: Observer,
     records: Vec<u8>,
@@ -52,14 +52,14 @@ pub struct Stage {
 }
 
 impl Stage {
-    pub fn new(parameters: ObjectDictionary, rng: Rng) -> Self {
+    pub fn new(head: Head, rng: Rng) -> Self {
         Self {
             rng,
             now: 0,
             loose: false,
-            parameters,
-            watched: Watched::new(parameters),
-            observer: Observer::new(&parameters),
+            head,
+            watched: Watched::new(head),
+            observer: Observer::new(&head),
             records: Vec::new(),
             lines: Vec::new(),
             values: Vec::new(),
@@ -82,7 +82,7 @@ impl Stage {
 
     /// The microseconds from a time to the deadline that is set then.
     pub fn timeout(&self) -> u64 {
-        parameters::timeout(&self.parameters)
+        parameters::timeout(&self.head.parameters)
     }
 
     /// A record as it is. Past the last that is read, bytes only stand in the trace.
@@ -242,7 +242,7 @@ impl Stage {
             self.watched.short(&mut self.lines);
         }
         Ok(Run {
-            parameters: self.parameters,
+            head: self.head,
             records: self.records,
             lines: self.lines,
             values: self.values,

@@ -22,10 +22,12 @@ pub enum Theme {
     Patient,
     /// Many nodes whose reads mostly end Complete, with writes and DCFs between them.
     Values,
+    /// Transfers whose totals lie around the limits of a first part.
+    Parts,
 }
 
 impl Theme {
-    /// Those that are drawn from; traces about values have seeds of their own.
+    /// Those that are drawn from; traces about values and about parts have seeds of their own.
     pub const ALL: [Self; 10] = [
         Self::Mixed,
         Self::Writes,
@@ -53,6 +55,7 @@ impl Theme {
             Self::Numbers => [20, 4, 4, 1, 1, 0],
             Self::Patient => [1, 20, 20, 0, 0, 0],
             Self::Values => [12, 16, 32, 2, 1, 1],
+            Self::Parts => [2, 14, 14, 2, 6, 0],
         }
     }
 
@@ -60,7 +63,7 @@ impl Theme {
     fn most_nodes(self) -> usize {
         match self {
             Self::Writes | Self::Patient => 2,
-            Self::Reads | Self::Dcfs => 3,
+            Self::Reads | Self::Dcfs | Self::Parts => 3,
             Self::Numbers => 5,
             Self::Crowd => 12,
             _ => 10,
@@ -120,6 +123,10 @@ fn pass_time(stage: &mut Stage, theme: Theme) {
 
 fn start(stage: &mut Stage, theme: Theme, nodes: &[u8]) {
     let mut node = stage.rng.pick(nodes);
+    // A long job that gets Busy would only be a hundred gathers.
+    if theme == Theme::Parts && stage.held(node).is_some() && !stage.rng.one_in(50) {
+        return stage.ask();
+    }
     // A busy node is taken less often than chance would.
     if stage.held(node).is_some() && theme != Theme::Numbers && !stage.rng.one_in(4) {
         node = stage.rng.pick(nodes);
@@ -134,6 +141,7 @@ fn start(stage: &mut Stage, theme: Theme, nodes: &[u8]) {
         Theme::Dcfs => 2,
         Theme::Patient => 1 + stage.rng.below(2),
         Theme::Values => stage.rng.pick(&[0, 1, 1, 1, 1, 1, 1, 2]),
+        Theme::Parts => stage.rng.pick(&[0, 2]),
         _ => stage.rng.below(3),
     };
     match job {
@@ -146,7 +154,9 @@ fn start(stage: &mut Stage, theme: Theme, nodes: &[u8]) {
 
 fn start_write(stage: &mut Stage, theme: Theme, node: u8) {
     let seldom = if theme == Theme::Writes { 4 } else { 60 };
-    let length = if stage.rng.one_in(seldom) {
+    let length = if theme == Theme::Parts {
+        draw::length_around_limits(&mut stage.rng)
+    } else if stage.rng.one_in(seldom) {
         draw::edge_length(&mut stage.rng)
     } else {
         draw::short_length(&mut stage.rng)
@@ -160,6 +170,7 @@ fn start_dcf(stage: &mut Stage, theme: Theme, node: u8) {
     let dcf = match theme {
         Theme::Crowd if rng.one_in(2) => vec![0; 4],
         Theme::Dcfs if rng.one_in(30) => draw::long_dcf(rng),
+        Theme::Parts => draw::dcf_around_limits(rng),
         Theme::Patient => {
             let more = rng.pick(&[20, 20, 20, 600]);
             let entries = 60 + rng.below(more);

@@ -1,6 +1,7 @@
 //! Which of document 01's rules a step reached: from the record, the repository's table before and
 //! after it, and the answer. Nothing here decides an answer.
 
+mod parts;
 mod reply;
 mod start;
 mod walk;
@@ -8,12 +9,13 @@ mod walk;
 use crate::client::{Answer, Call, MOST_BYTES, MOST_HELD};
 use crate::counts::Counts;
 use crate::gather::Turn;
+use crate::head::{Head, Modes};
 use crate::parameters;
 use crate::refusal::Refusal;
 use crate::rules::Rule;
 use crate::table::{State, Table};
 use crate::watched::Step;
-use oracle::ObjectDictionary;
+use oracle::Segmentation;
 use record::{Operation, Record, RecordBytes, DATA, OPERATION, SPARE};
 use replay_line::{End, Reason};
 
@@ -22,16 +24,20 @@ const LOW_FLAGS: u8 = 0x0F;
 
 pub struct Observer {
     counts: Counts,
+    modes: Modes,
     /// The microseconds from a time to the deadline that is set then.
     timeout: u64,
     /// The nodes that had an end.
     ended: [bool; 256],
     /// By node, the send number of the command to which a reply was refused.
     refused: [Option<u8>; 256],
+    /// By node, the kind of the part that went out last, as it was sent.
+    last_part: [Option<Segmentation>; 256],
 }
 
 impl Observer {
-    pub fn new(parameters: &ObjectDictionary) -> Self {
+    pub fn new(head: &Head) -> Self {
+        let parameters = &head.parameters;
         let mut counts = Counts::default();
         counts.reach(match parameters.timeout {
             None => Rule::TimeoutAbsent,
@@ -49,9 +55,11 @@ impl Observer {
         });
         Self {
             counts,
+            modes: head.modes,
             timeout: parameters::timeout(parameters),
             ended: [false; 256],
             refused: [None; 256],
+            last_part: [None; 256],
         }
     }
 

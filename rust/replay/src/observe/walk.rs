@@ -4,10 +4,7 @@ use super::Observer;
 use crate::rules::Rule;
 use crate::table::{Held, State};
 use crate::watched::Step;
-use oracle::{SdoCommand, Segmentation};
-
-/// The longest part.
-const MOST_PART: usize = 1_452;
+use oracle::{NodeId, SdoCommand};
 
 impl Observer {
     pub(super) fn tick(&mut self, time: u64, step: &Step) {
@@ -18,9 +15,13 @@ impl Observer {
         for held in reached(step, giver) {
             self.ticked(held, time, giver);
         }
-        let Some(giver) = giver else {
+        let Some((NodeId(giver), _, command)) = answer.sent.as_ref() else {
             return;
         };
+        let giver = *giver;
+        if let Some(held) = step.before.get(giver) {
+            self.repeated(held, command);
+        }
         if step.before.held[0].node < giver {
             self.reach(Rule::TickPassesOver);
         }
@@ -132,43 +133,7 @@ impl Observer {
         if held.send == 63 {
             self.reach(Rule::SendRound);
         }
-        let part = command.payload.len();
-        match held.state {
-            State::Established if !held.read_waits => self.first_part(held.total, part),
-            State::DownloadInProgress if part > 0 => self.later_part(held.total, command),
-            _ => {}
-        }
-    }
-
-    fn first_part(&mut self, total: usize, part: usize) {
-        self.reach(match total {
-            _ if part == total => Rule::PartExpedited,
-            ..=1_456 => Rule::PartExpeditedFirst,
-            _ => Rule::PartInitiate,
-        });
-        self.reach(match total {
-            4 => Rule::Total4,
-            1_452 => Rule::Total1452,
-            1_453 => Rule::Total1453,
-            1_456 => Rule::Total1456,
-            1_457 => Rule::Total1457,
-            2_904 => Rule::Total2904,
-            2_905 => Rule::Total2905,
-            4_096 => Rule::Total4096,
-            _ => return,
-        });
-    }
-
-    fn later_part(&mut self, total: usize, command: &SdoCommand) {
-        self.reach(match command.header.segmentation {
-            Segmentation::Segment => Rule::PartSegment,
-            _ if total <= 1_456 => Rule::PartCompleteAfterExpedited,
-            _ => Rule::PartComplete,
-        });
-        let complete = command.header.segmentation == Segmentation::Complete;
-        if complete && command.payload.len() == MOST_PART {
-            self.reach(Rule::PartCompleteFull);
-        }
+        self.part(held, command);
     }
 }
 

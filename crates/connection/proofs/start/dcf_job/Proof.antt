@@ -10,13 +10,13 @@ use Rattle.connection.proofs.start.dcf_job.Tie as tie
 returns : tie.Need-returns
 returns c =
     let a = c .before .before .args in
-    no-entry (λ x. c .job-with .result ≡ dcfJob x (a .size) (a .first)) (a .d) (c .before .match .keys2)
+    no-entry (λ x. c .job-with .result ≡ dcfJob (a .mode) x (a .size) (a .first)) (a .d) (c .before .match .keys2)
     (c .job-with .ensures) (c .job-with .ensures)
 
 returns-2 : tie.Need-returns-2
 returns-2 c =
     let a = c .before .before .before .before .args in
-    told (λ x. dcfJob x (a .size) (a .first)) refl (c .before .before .d .given .1) (c .job-with2 .ensures)
+    told (λ x. dcfJob (a .mode) x (a .size) (a .first)) refl (c .before .before .d .given .1) (c .job-with2 .ensures)
 
 pub dcf-job-spec : {M : Type 1} → statement M
 dcf-job-spec =

@@ -11,12 +11,12 @@ dcf-in-requires c κs = seat-sized _ (c .before .before .before .before .before 
 returns : tie.Need-returns
 returns c =
     let a = c .before .before .before .before .before .before .before .before .before .before .before .before .before .args in
-    start-on _ (a .store .now) _ (c .before .before .before .before .before .before .before .before .seat-in .ensures) (a .m) _ (loads (a .dcf .now)) (a .when) (c .before .before .before .before .before .before .before .before .before .before .target-of .ensures) _ _ _ _ _ (c .before .before .before .before .before .before .c .given .1) (c .before .before .before .before .before .before .before .before .before .next-transaction .ensures) (c .before .before .before .dcf-in .ensures .0) (c .started .ensures) (c .before .before .before .dcf-in .ensures .1)
+    start-on _ (a .store .now) _ (c .before .before .before .before .before .before .before .before .seat-in .ensures) (a .m) _ (loads (a .mode) (a .dcf .now)) (a .when) (c .before .before .before .before .before .before .before .before .before .before .target-of .ensures) _ _ _ _ _ (c .before .before .before .before .before .before .c .given .1) (c .before .before .before .before .before .before .before .before .before .next-transaction .ensures) (c .before .before .before .dcf-in .ensures .0) (c .started .ensures) (c .before .before .before .dcf-in .ensures .1)
 
 returns-2 : tie.Need-returns-2
 returns-2 c =
     let a = c .before .before .before .before .before .before .before .before .before .args in
-    start-refused _ (a .store .now) _ (c .before .before .before .before .seat-in .ensures) (a .m) _ (loads (a .dcf .now)) (a .when) (c .before .before .before .before .before .before .target-of .ensures) _ _ (c .before .before .r .given .1) (c .same .ensures)
+    start-refused _ (a .store .now) _ (c .before .before .before .before .seat-in .ensures) (a .m) _ (loads (a .mode) (a .dcf .now)) (a .when) (c .before .before .before .before .before .before .target-of .ensures) _ _ (c .before .before .r .given .1) (c .same .ensures)
 
 pub load-change-spec : {M : Type 1} → statement M
 load-change-spec =

@@ -13,9 +13,9 @@ returns c =
     let start = c .before .before .before .before .room-start .ensures in
     let e = lent-room (a .store .now) (a .c) _ (start .0) in (
       rw e at (c .before .before .start-concise-dcf-job .ensures .0),
-      room-back (a .store .now) _ _ (a .c) _ (start .0) (start .1) (c .before .before .before .before .before .before .before .pre) (c .before .before .start-concise-dcf-job .kept .1 .1 .1 .1 .0) (rw e at (c .before .before .start-concise-dcf-job .ensures .1))
-          ∙ dcf-stored (a .store .now) (c .before .before .before .before .before .before .before .pre) (a .c) (a .dcf .now)
-          (startDcf (a .c) (a .tid) (a .when) (a .dcf .now) (roomIn (a .store .now) (a .c))),
+      room-back (a .store .now) _ _ (a .c) _ (start .0) (start .1) (c .before .before .before .before .before .before .before .pre) (c .before .before .start-concise-dcf-job .kept .1 .1 .1 .1 .1 .0) (rw e at (c .before .before .start-concise-dcf-job .ensures .1))
+          ∙ dcf-stored (a .store .now) (c .before .before .before .before .before .before .before .pre) (a .c) (a .mode) (a .dcf .now)
+          (startDcf (a .c) (a .tid) (a .when) (a .mode) (a .dcf .now) (roomIn (a .store .now) (a .c))),
     )
 
 pub dcf-in-spec : {M : Type 1} → statement M

@@ -22,9 +22,9 @@ returns c =
     let x = c .before .before .before .before .before .before .before .before .put .ensures .1 in
     let p = used-part (a .gather .now) (a .already) (a .own .now) h x (c .before .before .before .before .part .ensures) in
     let e = c .before .before .plan-use .ensures in
-    let u = use-plan (c .before .before .before .before .before .before .before .before .before .before .before .operation .given .0 .0) (a .r) (a .m) (a .when) (c .before .before .before .before .part .result .now) (a .store .now) (a .output .now) in
+    let u = use-plan (c .before .before .before .before .before .before .before .before .before .before .before .operation .given .0 .0) (a .mode) (a .r) (a .m) (a .when) (c .before .before .before .before .part .result .now) (a .store .now) (a .output .now) in
     plans (a .m) (a .store .now) (a .output .now)
-    (ap (λ x. operationAsks x (a .r) (a .already) (a .when) (a .own .now) (a .gather .now))
+    (ap (λ x. operationAsks x (a .mode) (a .r) (a .already) (a .when) (a .own .now) (a .gather .now))
     (sym (c .before .before .before .before .before .before .before .before .before .before .before .operation .given .1)))
     (rw (← p, ← u .0, ← u .1 .0) (rw (e .0), (e .1, (x ∙ put-fits _ _ _ h, u .1 .1))))
 
@@ -33,15 +33,15 @@ unfolding planOf
 returns-2 c =
     let a = c .before .before .before .before .before .before .before .before .args in
     plans (a .m) (a .store .now) (a .output .now)
-    (ap (λ x. operationAsks x (a .r) (a .already) (a .when) (a .own .now) (a .gather .now)) (sym (c .before .before .enum-told .given .1)))
-    (rw (c .read-change .ensures), (read-keeps _ _ _ _ _ _, (refl, refl)))
+    (ap (λ x. operationAsks x (a .mode) (a .r) (a .already) (a .when) (a .own .now) (a .gather .now)) (sym (c .before .before .enum-told .given .1)))
+    (rw (c .read-change .ensures), (read-keeps _ _ _ _ _ _ _, (refl, refl)))
 
 returns-3 : tie.Need-returns-3
 unfolding planOf
 returns-3 c =
     let a = c .before .before .before .before .before .before .before .before .before .before .before .before .args in
     plans (a .m) (a .store .now) (a .output .now)
-    (ap (λ x. operationAsks x (a .r) (a .already) (a .when) (a .own .now) (a .gather .now))
+    (ap (λ x. operationAsks x (a .mode) (a .r) (a .already) (a .when) (a .own .now) (a .gather .now))
     (sym (c .before .before .before .before .before .before .operation2 .given .1)))
     (rw (c .before .before .plan-turn .ensures .0), (turn-keeps _ _ _ _ _, (refl, c .before .before .plan-turn .ensures .1)))
 
@@ -49,7 +49,7 @@ returns-4 : tie.Need-returns-4
 returns-4 c =
     let a = c .before .before .before .before .before .before .before .before .before .before .before .args in
     plans (a .m) (a .store .now) (a .output .now)
-    (ap (λ x. operationAsks x (a .r) (a .already) (a .when) (a .own .now) (a .gather .now))
+    (ap (λ x. operationAsks x (a .mode) (a .r) (a .already) (a .when) (a .own .now) (a .gather .now))
     (sym (c .before .before .before .before .before .enum-told2 .given .1)))
     (c .gathered-as .ensures ∙ rw (c .before .before .before .gather-more .ensures .0), (refl, (c .before .before .before .gather-more .ensures .1, refl)))
 

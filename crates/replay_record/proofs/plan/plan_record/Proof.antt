@@ -10,14 +10,14 @@ use Rattle.replay_record.proofs.plan.plan_record.Tie as tie
 returns : tie.Need-returns
 returns c =
     let a = c .before .before .before .before .before .before .before .args in
-    plans (a .m) (a .store .now) (a .output .now) (unread (a .gathered) (a .b .now) (a .timeout) (a .retries) (a .gather .now) (c .before .if1 .taken))
+    plans (a .m) (a .store .now) (a .output .now) (unread (a .gathered) (a .b .now) (a .choices) (a .gather .now) (c .before .if1 .taken))
     (c .answered .ensures ∙ rw (c .before .before .at-most .ensures), (refl, (refl, refl)))
 
 returns-2 : tie.Need-returns-2
 returns-2 c =
     let a = c .before .before .before .before .before .before .before .before .before .before .before .args in
     plans (a .m) (a .store .now) (a .output .now)
-    (reads (a .gathered) (a .b .now) (a .timeout) (a .retries) (a .gather .now) (c .before .before .before .before .before .if1 .left)
+    (reads (a .gathered) (a .b .now) (a .choices) (a .gather .now) (c .before .before .before .before .before .if1 .left)
     (c .before .before .before .before .read-record .ensures) (c .before .before .r .given .1))
     (c .answered2 .ensures ∙ rw (c .before .before .before .before .before .before .at-most .ensures), (refl, (refl, refl)))
 
@@ -30,7 +30,7 @@ returns-3 : tie.Need-returns-3
 returns-3 c =
     let a = c .before .before .before .before .before .before .before .before .before .before .before .before .before .before .before .before .before .before .before .before .before .before .args in
     plans (a .m) (a .store .now) (a .output .now)
-    (reads (a .gathered) (a .b .now) (a .timeout) (a .retries) (a .gather .now) (c .before .before .before .before .before .before .before .before .before .before .before .before .before .before .before .before .if1 .left)
+    (reads (a .gathered) (a .b .now) (a .choices) (a .gather .now) (c .before .before .before .before .before .before .before .before .before .before .before .before .before .before .before .before .if1 .left)
     (c .before .before .before .before .before .before .before .before .before .before .before .before .before .before .before .read-record .ensures)
     (c .before .before .before .before .before .before .before .before .before .before .before .before .before .r2 .given .1))
     (rw (

@@ -5,6 +5,7 @@ mod dcfs;
 mod jobs;
 mod late;
 mod numbers;
+mod parts;
 mod reads;
 mod replay;
 mod replies;
@@ -64,6 +65,15 @@ pub const VALUE_SCENES: [Scene; 10] = [
     replies::openings,
     timeouts::at_each_stage,
     replies::upload_room,
+];
+
+/// Scenes of transfers around the limits of a first part.
+pub const PART_SCENES: [Scene; 5] = [
+    jobs::part_edges,
+    parts::entries,
+    parts::disturbed,
+    replies::at_a_part,
+    timeouts::at_a_part,
 ];
 
 /// The stages of a connection, at which replies and timeouts meet it.

@@ -3,7 +3,7 @@
 SHELL = /bin/bash
 .SHELLFLAGS = -o pipefail -c
 
-.PHONY: test replay values lib display trace capture compare dissect bench
+.PHONY: test replay values salvage lib display trace capture compare dissect bench
 
 test:
 	bash .ci/run
@@ -18,12 +18,21 @@ replay values:
 	@tests/programs
 	@case '$(TRACE)' in *.txt) $(MAKE) -s trace < '$(TRACE)' | target/run/$@ ;; *) target/run/$@ < '$(TRACE)' ;; esac
 
+# The DCF on standard input, repaired, on standard output, and on standard error the line that tells what came of it (docs/SALVAGE.md), so what proving
+# and building it says is shown only where that fails.
+salvage:
+	@[ -e target/bin/salvage ] || echo 'salvage is proved and built first, which takes about a minute' >&2
+	@mkdir -p target
+	@rt check salvage > target/salvage.log 2>&1 < /dev/null || { cat target/salvage.log >&2; exit 1; }
+	@tests/programs < /dev/null
+	@target/run/salvage
+
 # The static library for C and Rust on x86-64: target/staticlib/libostelumiv.a, with include/ostelumiv.h.
 lib:
 	@tests/library 1>&2
 
-# Frames as hex on standard input, one a line, shown in words; with DO=replay or DO=values, the lines that these printed; with DO=--help,
-# how (docs/TRACES.md).
+# Frames as hex on standard input, one a line, shown in words; with DO=replay or DO=values, the lines that these printed; with DO=dcf, a
+# concise DCF, its bytes; with DO=--help, how (docs/TRACES.md).
 display: DO =
 display: lib
 	@cd rust && ../tests/x86-64 cargo run --release --offline --quiet -p display -- $(DO)
@@ -44,16 +53,18 @@ capture:
 
 # The whole client against the repository's: RECORDS records drawn, and as many again in published mode, every line, state and value compared,
 # and how often each rule was reached; the replay and values of traces/ held to their lines, and random bytes through both; replay_states in
-# each of its modes.
+# each of its modes; salvage, and as many drawn DCFs through it.
 RECORDS = 1000000
 compare:
-	@rt check replay replay_states values 1>&2
+	@rt check replay replay_states values salvage salvages 1>&2
 	@tests/programs
-	@cd rust && cargo build --release --offline --quiet -p trace -p replay_oracle
+	@cd rust && cargo build --release --offline --quiet -p trace -p replay_oracle -p salvage_oracle
+	@tests/samples
 	@tests/traces
 	@tests/random
 	@tests/values
 	@tests/modes
+	@DCFS=$(RECORDS) tests/salvage
 	@rust/target/release/replay_oracle compare $(RECORDS)
 
 # What Wireshark's dissector reads in the frames that the client sends, held to what was sent: those of the file that LINES names, which

@@ -1,5 +1,5 @@
--- What the step's answer says of the readable entries from its cursor on: an entry is the first of them, and the next cursor has the
--- rest; else there is none, whether none is counted any more or one is not readable.
+-- What the step's answer says of the readable entries from its cursor on: an entry is the first of them, and the next cursor, behind its 7 bytes and
+-- its data, has the rest; else there is none, whether none is counted any more or one is not readable.
 use Prim.Native.Nat.{ℕ, zero, suc, _+_, _-_, _<_, _≤_}
 use native.Mathlib.Omega.{arith}
 use mathlib.Core.Path.{_≡_, refl}
@@ -21,6 +21,7 @@ Stepped b at left (DcfStep.Entry index sub start len next) =
     (entriesFrom left b at ≡ sentAs index sub (take len (drop start b)) ∷ entriesFrom (next .left) b (next .at))
     × (left ≡ suc (next .left))
     × (start + len ≤ length b)
+    × (next .at ≡ at + 7 + len)
 Stepped b at left DcfStep.End = (entriesFrom left b at ≡ []) × (left ≡ 0)
 Stepped b at left DcfStep.Unreadable = (entriesFrom left b at ≡ []) × (left ≡ 0 → ⊥)
 
@@ -41,7 +42,7 @@ step-at b at (suc k) = rw (ne-eqb (suc k) 0 (λ z. omega arith)) (go (leb (at + 
         DcfStep.Unreadable)
     go false q e f = (rw e, λ z. omega arith)
     go true false e f = (rw (e, f), λ z. omega arith)
-    go true true e f = (rw (e, f, less), omega arith, leb-true _ _ f)
+    go true true e f = (rw (e, f, less), omega arith, leb-true _ _ f, refl)
 
 pub stepped : (b : Bytes) (c : DcfCursor) → Stepped b (c .at) (c .left) (dcfStep b c)
 stepped b c = step-at b (c .at) (c .left)

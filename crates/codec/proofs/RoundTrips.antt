@@ -184,7 +184,7 @@ joined n q r s a b c d e f g h = omega arith
 byte-off : (n : ℕ) → n / 256 * 256 + n % 256 ≡ n
 byte-off n = omega arith
 
-four-bytes : (n : ℕ) → n < 4294967296 → n % 256 + n / 256 % 256 * 256 + (n / 65536 % 256 + n / 16777216 % 256 * 256) * 65536 ≡ n
+pub four-bytes : (n : ℕ) → n < 4294967296 → n % 256 + n / 256 % 256 * 256 + (n / 65536 % 256 + n / 16777216 % 256 * 256) * 65536 ≡ n
 four-bytes n h =
     let e : n / 65536 ≡ n / 256 / 256 = omega arith in
     let f : n / 16777216 ≡ n / 256 / 256 / 256 = omega arith in

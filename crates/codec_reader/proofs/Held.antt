@@ -12,7 +12,7 @@ use base.Logic.{ent, sep}
 use base.Fml.{Lft, Share, Fml, ftrue, fsep, fat, flft}
 use prog.Wp.{Heap}
 use ghost.Atoms.{Atoms, sem}
-use types.Kit.{Given, Item, ‵, _⊛_, given, _$_, _∵_, !, qed, by, move, drop, use1, split, learn, fsplit, fjoin, fpick, fpack, done}
+use types.Kit.{Given, Item, ‵, _⊛_, given, _$_, _∵_, !, qed, by, move, drop, use1, split, learn, fsplit, fjoin, fpick, fpack, frame, done}
 use denote.Builtin.{u8, u32, usize}
 use denote.Laws.{Is, shows}
 use denote.Memory.{cellAt, partAt, partOf}
@@ -74,7 +74,7 @@ module _ {M : Type 1} (𝓤 : URA M) (H : Heap 𝓤) (A : Atoms 𝓤) (W : Given
       qed W (‵ (OfDcf (α .lft) (d .dcf)) ∷ []) ∵ nothing ! $ owned ! u32 (Is u32) (uint-makes 𝓤 H A W w32) (d .left) _ (refl, left-fits) $ fjoin ! $
       owned ! usize (Is usize) (uint-makes 𝓤 H A W w64) (d .at) _ (refl, at-fits) $ fjoin ! $ move ! (1 ∷ 0 ∷ []) $ fjoin ! $ by ! (own-shut 𝓤 H A W D L fields)
 
-  -- a local's cell, whose type has no lifetime's name, with what the reader in it owns; and the cell alone, as it is freed
+  -- a local's cell, whose type has no lifetime's name, with what the reader in it owns; and the two apart again
   module _ (l : ℕ) where
     pub cell-in : ent 𝓤 (sep 𝓤 (H .at fullShare (T′.mir erased) l 0 (T′.lowered d)) (sem 𝓤 H A (OfReader α d))) (sem 𝓤 H A (partAt (T.the-row α) fullShare d l 0))
     unfolding partOf
@@ -83,9 +83,9 @@ module _ {M : Type 1} (𝓤 : URA M) (H : Heap 𝓤) (A : Atoms 𝓤) (W : Given
         use1 W (‵ (cellAt fullShare (T.the-row α .mir) (T′.lowered d ∷ []) l 0)) (W .laws .at-raw fullShare (T′.mir erased) l 0 (T′.lowered d)) $ fjoin ! $
         fpack ! (List Val) (λ vs. fsep (cellAt fullShare (T.the-row α .mir) vs l 0) (T.the-row α .own d vs)) (T′.lowered d ∷ []) $ done !
 
-    pub cell-out : ent 𝓤 (sem 𝓤 H A (partAt (T.the-row α) fullShare d l 0)) (H .at fullShare (T′.mir erased) l 0 (T′.lowered d))
+    pub cell-out : ent 𝓤 (sem 𝓤 H A (partAt (T.the-row α) fullShare d l 0)) (sep 𝓤 (H .at fullShare (T′.mir erased) l 0 (T′.lowered d)) (sem 𝓤 H A (OfReader α d)))
     unfolding partOf
     cell-out =
-        qed W (‵ (partAt (T.the-row α) fullShare d l 0) ∷ []) {P = H .at fullShare (T′.mir erased) l 0 (T′.lowered d)} (
-        fpick ! (λ vs. fsplit ! $ spelt ! (T.the-row α) (Is (T.the-row α)) (shows 𝓤 H A (T.the-row α)) (LL.vals D L) (LL.tells D L) fullShare d vs l 0 $ move ! (1 ∷ []) $ drop ! $
-        use1 W (‵ (fat fullShare (T′.mir erased) l 0 (T′.lowered d))) (W .laws .raw-at fullShare (T′.mir erased) l 0 (T′.lowered d)) $ done !))
+        qed W (‵ (partAt (T.the-row α) fullShare d l 0) ∷ []) {P = sep 𝓤 (H .at fullShare (T′.mir erased) l 0 (T′.lowered d)) (sem 𝓤 H A (OfReader α d))} (
+        fpick ! (λ vs. fsplit ! $ spelt ! (T.the-row α) (Is (T.the-row α)) (shows 𝓤 H A (T.the-row α)) (LL.vals D L) (LL.tells D L) fullShare d vs l 0 $
+        use1 W (‵ (fat fullShare (T′.mir erased) l 0 (T′.lowered d))) (W .laws .raw-at fullShare (T′.mir erased) l 0 (T′.lowered d)) $ frame ! $ done !))

@@ -1,6 +1,6 @@
 pub mod Held
 pub mod Loan
-pub mod PlaceLoop
+pub mod PlaceCall
 pub mod Places
 pub mod Readable
 pub mod SuccessiveCalls

@@ -8,7 +8,7 @@ use Rattle.codec.specs.Dcf.{dcfCount, dcfStep}
 use Rattle.codec.specs.declared.dcf.DcfCount.{DcfCount}
 use Rattle.codec.specs.declared.dcf.DcfCursor.{DcfCursor}
 use Rattle.codec.specs.declared.dcf.DcfStep.{DcfStep}
-use Rattle.codec_reader.specs.Place.{counted, firstPlace, past, steppedBy, steppedFrom, placeAfter, placeOf}
+use Rattle.codec_reader.specs.Place.{counted, entryOf, firstPlace, past, steppedBy, steppedFrom, placeAfter, placeOf}
 use Rattle.codec_reader.specs.declared.place.Stepped.{Stepped}
 
 abbrev counting : ℕ → DcfCursor
@@ -25,28 +25,37 @@ pub step-and-place : (b : Bytes) (c : DcfCursor) {found : DcfStep} {next : DcfCu
     → found ≡ dcfStep b c → next ≡ past c found → placed found next ≡ steppedFrom b c
 step-and-place b c e g = ap (placed _) g ∙ ap (steppedBy c) e
 
--- steps still to go from a place, to that of the n-th entry
-pub record ToGo (b : Bytes) (n : ℕ) (c : DcfCursor) (m : ℕ) : Type 0 where
-  pub so : placeAfter m b c ≡ placeOf b n
+-- a step from a place, with m more to go from there to the n-th entry's
+pub record Reading (b : Bytes) (n : ℕ) (step : Stepped) (m : ℕ) : Type 0 where
+  pub place : DcfCursor
+  pub is : step ≡ steppedFrom b place
+  pub to-go : placeAfter m b place ≡ placeOf b n
 
-pub all-to-go : (b : Bytes) (n : ℕ) (c : DcfCursor) → c ≡ firstPlace b → ToGo b n c n
-all-to-go b n c e = record { so = ap (placeAfter n b) e }
+pub begins : (b : Bytes) (n : ℕ) (step : Stepped) {first : DcfCursor} → first ≡ firstPlace b → step ≡ steppedFrom b first → Reading b n step n
+begins b n step {first} e f = record { place = first; is = f; to-go = ap (placeAfter n b) e }
 
-pub none-to-go : (b : Bytes) (n : ℕ) (c : DcfCursor) (m : ℕ) → ToGo b n c m → m ≤ 0 → c ≡ placeOf b n
-none-to-go b n c m h z = let e : 0 ≡ m = omega arith in ap (λ (k : ℕ). placeAfter k b c) e ∙ h .so
+pub reached : (b : Bytes) (n : ℕ) (step : Stepped) (m : ℕ) → Reading b n step m → m ≤ 0 → step ≡ entryOf b n
+reached b n step m h z =
+    let e : 0 ≡ m = omega arith in h .is ∙ ap (steppedFrom b) (ap (λ (k : ℕ). placeAfter k b (h .place)) e ∙ h .to-go)
 
-module _ (b : Bytes) (n : ℕ) (c : DcfCursor) (m : ℕ) (h : ToGo b n c m) {answer found : DcfStep} (e : answer ≡ dcfStep b c) (g : answer ≡ found) where
-  on : past c (dcfStep b c) ≡ past c found
-  on = ap (past c) (sym e ∙ g)
+-- the place after a step is that of the next
+pub goes-on : (b : Bytes) (n : ℕ) (step next : Stepped) (m : ℕ) → Reading b n step m → 0 < m
+    → next ≡ steppedFrom b (record { at = step .at; left = step .left }) → Reading b n next (m - 1)
+goes-on b n step next m h more e =
+    let f : suc (m - 1) ≡ m = omega arith in
+    record {
+      place = past (h .place) (dcfStep b (h .place));
+      is = e ∙ rw (h .is);
+      to-go = ap (λ (k : ℕ). placeAfter k b (h .place)) f ∙ h .to-go;
+    }
 
-  pub one-less : 0 < m → ToGo b n (past c found) (m - 1)
-  one-less more =
-      let f : suc (m - 1) ≡ m = omega arith in
-      record { so = ap (placeAfter (m - 1) b) (sym on) ∙ ap (λ (k : ℕ). placeAfter k b c) f ∙ h .so }
+-- where no entry stands, steps lead nowhere else
+pub stays : (b : Bytes) (n : ℕ) (step : Stepped) (m : ℕ) → Reading b n step m → ((c : DcfCursor) → past c (step .found) ≡ c) → step ≡ entryOf b n
+stays b n step m h same = h .is ∙ ap (steppedFrom b) (sym (all m) ∙ h .to-go)
+  where
+    here : past (h .place) (dcfStep b (h .place)) ≡ h .place
+    here = ap (λ (t : Stepped). past (h .place) (t .found)) (sym (h .is)) ∙ same (h .place)
 
-  pub stays : past c found ≡ c → c ≡ placeOf b n
-  stays same = sym (all m) ∙ h .so
-    where
-      all : (k : ℕ) → placeAfter k b c ≡ c
-      all zero = refl
-      all (suc k) = ap (placeAfter k b) (on ∙ same) ∙ all k
+    all : (k : ℕ) → placeAfter k b (h .place) ≡ h .place
+    all zero = refl
+    all (suc k) = ap (placeAfter k b) here ∙ all k

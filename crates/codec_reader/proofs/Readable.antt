@@ -60,5 +60,5 @@ found b c = go (dcfStep b c) (stepped b c)
     go DcfStep.End h = h .0
     go DcfStep.Unreadable h = h .0
 
-pub entry-of-readable : (b : Bytes) (n : ℕ) → First b (drop n (readableEntries b)) (entryOf b n)
+pub entry-of-readable : (b : Bytes) (n : ℕ) → First b (drop n (readableEntries b)) (entryOf b n .found)
 entry-of-readable b n = rw (← first b, ← steps n b (firstPlace b)) (found b (placeOf b n))

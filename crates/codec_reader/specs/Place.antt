@@ -38,6 +38,6 @@ placeAfter (suc n) b c = placeAfter n b (past c (dcfStep b c))
 abbrev pub placeOf : Bytes → ℕ → DcfCursor
 placeOf b n = placeAfter n b (firstPlace b)
 
--- the n-th readable entry; where there is none, what stands behind the last that is readable: End or Unreadable
-abbrev pub entryOf : Bytes → ℕ → DcfStep
-entryOf b n = dcfStep b (placeOf b n)
+-- the n-th readable entry, and the place after it; where there is none, what stands behind the last that is readable, End or Unreadable, and that place
+abbrev pub entryOf : Bytes → ℕ → Stepped
+entryOf b n = steppedFrom b (placeOf b n)

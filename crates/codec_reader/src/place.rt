@@ -1,6 +1,6 @@
 // Places in a concise DCF by value, as codec's cursor has them: the work of the reader, on plain slices and numbers.
 ghost use mathlib.Core.Path.{_≡_};
-ghost use Rattle.codec_reader.specs.Place.{firstPlace, past as pastOf, placeOf, steppedFrom};
+ghost use Rattle.codec_reader.specs.Place.{firstPlace, past as pastOf, steppedFrom};
 use codec::dcf::DcfCount;
 use codec::dcf::DcfCursor;
 use codec::dcf::DcfStep;
@@ -8,7 +8,7 @@ use codec::dcf::dcf_count;
 use codec::dcf::dcf_step;
 
 // What a step found, and the place after it: past an entry, and else where it was.
-pub(crate) struct Stepped {
+pub struct Stepped {
     pub found: DcfStep,
     pub at: usize,
     pub left: u32,
@@ -46,34 +46,11 @@ pub(crate) fn step_from(dcf: &[u8], at: usize, left: u32) -> Stepped
 }
 
 // The first entry's place. Of a DCF under four bytes no entry is counted.
-fn first_place(dcf: &[u8]) -> DcfCursor
+pub(crate) fn first_place(dcf: &[u8]) -> DcfCursor
     ensures { λ r. ⌜ r ≡ firstPlace (now (dcf .entry)) ⌝ }
 {
     let DcfCount::Count(left) = dcf_count(dcf) else {
         return DcfCursor { at: 4, left: 0 };
     };
     DcfCursor { at: 4, left }
-}
-
-// The place of the n-th entry, counted from 0; where fewer are readable, the place behind the last that is.
-pub(crate) fn place_of(dcf: &[u8], n: u32) -> DcfCursor
-    ensures { λ r. ⌜ r ≡ placeOf (now (dcf .entry)) n ⌝ }
-{
-    let mut place = first_place(dcf);
-    let mut more = n;
-    while 0 < more {
-        more -= 1;
-        let DcfStep::Entry {
-            index: _,
-            sub_index: _,
-            start: _,
-            len: _,
-            next,
-        } = dcf_step(dcf, place)
-        else {
-            return place;
-        };
-        place = next;
-    }
-    place
 }

@@ -5,8 +5,8 @@
 ghost use mathlib.Core.Path.{_≡_};
 ghost use mathlib.Core.List.{[]};
 ghost use Rattle.manager.specs.Calls.{called, starts, turns, replies, writes, reads, loads, leastDeadline};
-ghost use Rattle.manager.specs.Value.{valueIn};
 ghost use Rattle.man_table.specs.Table.{live};
+ghost use Rattle.man_value.specs.Value.{valueIn};
 ghost use Rattle.man_lent.specs.Lent.{toldOf};
 use crate::types::Told;
 use codec::command::SdoCommand;
@@ -16,7 +16,7 @@ use con_rec::Mode;
 use con_rec::Now;
 use man_table::types::SdoClientManager;
 use man_table::types::Turn;
-use manager::types::StorePart;
+use man_value::StorePart;
 
 pub mod types;
 pub(crate) mod value;
@@ -94,7 +94,7 @@ pub fn handle_response(
 pub fn value_in(store: &[u8], at: StorePart) -> &[u8]
     ensures { λ r. ⌜ now r ≡ valueIn (now (store .entry)) at ⌝ }
 {
-    manager::value::value_in(store, at)
+    man_value::value_in(store, at)
 }
 
 // What is to be sent next, to whom, its payload at the start of the output; and the jobs that are done. Call it when a frame can go

@@ -7,6 +7,7 @@ use mathlib.Core.List.{List, [], _∷_, _++_}
 use lib.Dec.{ltb, leb, eqb}
 use lib.ListN.{length, take, drop, getD, replicate}
 use Rattle.laws.specs.Pick.{pick}
+use Rattle.codec.specs.Bytes.{Bytes}
 use Rattle.con_rec.specs.Record.{newConnection}
 use Rattle.man_table.specs.Types.{Found, SdoClientConnection, SdoClientManager, Entry}
 
@@ -72,6 +73,10 @@ lastRoom = 28672
 
 abbrev pub roomStart : SdoClientConnection → ℕ
 roomStart c = min (c .room) lastRoom
+
+-- the bytes of a connection's room in the store
+abbrev pub roomIn : Bytes → SdoClientConnection → Bytes
+roomIn store c = take roomSize (drop (roomStart c) store)
 
 -- the first room that no connection has, of the next `left` from the k-th on; the last room where all are had
 abbrev pub freeFrom : ℕ → ℕ → List SdoClientConnection → ℕ

@@ -9,8 +9,8 @@ use lib.Seq.{drop-drop}
 use Rattle.codec.specs.Bytes.{Bytes, placed}
 use Rattle.connection.specs.Start.{roomWith}
 use Rattle.con_reply.specs.Reply.{replied, roomAfter}
-use Rattle.manager.specs.Calls.{loads, repliedStore, roomIn, startedStore, withRoom, writes}
-use Rattle.man_table.specs.Table.{roomSize, roomStart, storeSize}
+use Rattle.manager.specs.Calls.{loads, repliedStore, startedStore, withRoom, writes}
+use Rattle.man_table.specs.Table.{roomIn, roomSize, roomStart, storeSize}
 use Rattle.manager.specs.Types.{Taken, Decision, Mode, SdoClientConnection}
 
 -- the part that is lent, from its start to 4,096 bytes further

@@ -15,9 +15,9 @@ use Rattle.con_rec.specs.Payload.{payloadOf}
 use Rattle.man_table.proofs.Places.{Within, due-within}
 use Rattle.man_table.proofs.RestingTurns.{rests-quiet}
 use Rattle.man_table.specs.Resting.{dueIn, restsOf}
-use Rattle.man_table.specs.Table.{blank, heldAt, live, oneFurther, storeSize}
+use Rattle.man_table.specs.Table.{blank, heldAt, live, oneFurther, roomIn, storeSize}
 use Rattle.man_table.specs.Walk.{Walking, refused, through, stopped, passed, stopOr, atTurn, walkStep, walkList}
-use Rattle.manager.specs.Calls.{After, Call, called, outputSize, replies, roomIn, sentTo, starts, turnOf, turns, walkedTo}
+use Rattle.manager.specs.Calls.{After, Call, called, outputSize, replies, sentTo, starts, turnOf, turns, walkedTo}
 use Rattle.manager.specs.Change.{answering, changeDone, enteredAt, leaving, numberAfter, putting, refusing, same}
 use Rattle.manager.specs.Plan.{Planned, planAt, planChange, planDone, planGiven, planOf, planStep, turnPlan}
 use Rattle.manager.specs.Types.{

@@ -8,8 +8,8 @@ use lib.ListN.{length}
 use borrow.Author.Tests.{eqb-true}
 use Rattle.laws.specs.Pick.{pick}
 use Rattle.codec.specs.Bytes.{Bytes}
-use Rattle.man_table.specs.Table.{storeSize, targetOf}
-use Rattle.manager.specs.Calls.{Effect, Job, numberOf, reads, roomIn, seatIn, seatOf, startJob, startOf, startAt, startedAs, startedStore}
+use Rattle.man_table.specs.Table.{roomIn, storeSize, targetOf}
+use Rattle.manager.specs.Calls.{Effect, Job, numberOf, reads, seatIn, seatOf, startJob, startOf, startAt, startedAs, startedStore}
 use Rattle.laws.proofs.Choices.{decided}
 use Rattle.manager.proofs.LentRoom.{put-back}
 use Rattle.manager.specs.Change.{same}

@@ -11,9 +11,9 @@ use borrow.Author.Tests.{leb-true, leb-false}
 use Rattle.codec.specs.Bytes.{Bytes}
 use Rattle.codec.specs.Writing.{bufferAfter}
 use Rattle.con_rec.specs.Payload.{payloadOf}
-use Rattle.manager.specs.Calls.{After, roomIn, sentTo, walkedTo}
+use Rattle.manager.specs.Calls.{After, sentTo, walkedTo}
 use Rattle.manager.specs.Change.{leaving, refusing}
-use Rattle.man_table.specs.Table.{blank, live, tableOf, heldAt}
+use Rattle.man_table.specs.Table.{blank, live, tableOf, heldAt, roomIn}
 use Rattle.manager.specs.Types.{
   Answer,
   Done,

@@ -6,7 +6,7 @@ use Prim.Native.Nat.{ℕ, min}
 use mathlib.Core.Bool.{Bool, true, false}
 use mathlib.Core.List.{List, [], _∷_}
 use lib.Dec.{ltb, eqb}
-use lib.ListN.{length, take, drop, getD}
+use lib.ListN.{length, getD}
 use Rattle.laws.specs.Pick.{pick}
 use Rattle.codec.specs.Bytes.{Bytes, placed}
 use Rattle.codec.specs.Writing.{bufferAfter}
@@ -15,7 +15,7 @@ use Rattle.con_rec.specs.Payload.{payloadOf}
 use Rattle.con_rec.specs.Record.{nextTransaction}
 use Rattle.con_reply.specs.Reply.{replyOf, replied, roomAfter}
 use Rattle.connection.specs.Start.{startRead, startWrite, startDcf}
-use Rattle.man_table.specs.Table.{blank, findIn, heldAt, live, roomSize, roomStart, storeSize, targetOf}
+use Rattle.man_table.specs.Table.{blank, findIn, heldAt, live, roomIn, roomStart, storeSize, targetOf}
 use Rattle.manager.specs.Change.{changeDone, leaving, putting, refusing, same, taking}
 use Rattle.manager.specs.Types.{
   Answer,
@@ -65,10 +65,7 @@ pub record After : Type 0 where
 
 -- ---- rooms
 
--- the bytes of a connection's room in the store, and the store with other bytes in that room
-abbrev pub roomIn : Bytes → SdoClientConnection → Bytes
-roomIn store c = take roomSize (drop (roomStart c) store)
-
+-- the store with other bytes in a connection's room
 abbrev pub withRoom : Bytes → SdoClientConnection → Bytes → Bytes
 withRoom store c room = placed store (roomStart c) room
 

@@ -8,9 +8,9 @@ use Rattle.codec.specs.Bytes.{Bytes}
 use Rattle.codec.specs.Writing.{bufferAfter}
 use Rattle.con_rec.specs.Payload.{payloadOf}
 use Rattle.man_table.specs.Resting.{dueIn}
-use Rattle.man_table.specs.Table.{heldAt, live, storeSize}
+use Rattle.man_table.specs.Table.{heldAt, live, roomIn, storeSize}
 use Rattle.man_table.specs.Walk.{atTurn}
-use Rattle.manager.specs.Calls.{After, Call, carriedOut, outputSize, replies, replyFrom, roomIn, sentTo, startOf, starts, turnOf, turns}
+use Rattle.manager.specs.Calls.{After, Call, carriedOut, outputSize, replies, replyFrom, sentTo, startOf, starts, turnOf, turns}
 use Rattle.manager.specs.Change.{putting, same}
 use Rattle.manager.specs.Types.{
   Answer,

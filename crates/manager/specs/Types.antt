@@ -10,7 +10,6 @@ pub use Rattle.con_rec.specs.declared.Now.{Now}
 pub use Rattle.con_rec.specs.declared.Outcome.{Outcome}
 pub use Rattle.con_rec.specs.declared.Outgoing.{Outgoing}
 pub use Rattle.con_rec.specs.declared.PendingRead.{PendingRead}
-pub use Rattle.con_rec.specs.declared.Reason.{Reason}
 pub use Rattle.con_rec.specs.declared.SdoClientConnection.{SdoClientConnection}
 pub use Rattle.con_rec.specs.declared.Sends.{Sends}
 pub use Rattle.con_rec.specs.declared.Step.{Step}
@@ -18,7 +17,7 @@ pub use Rattle.con_rec.specs.declared.Stepped.{Stepped}
 pub use Rattle.manager.specs.declared.types.Answer.{Answer}
 pub use Rattle.manager.specs.declared.types.Change.{Change}
 pub use Rattle.manager.specs.declared.types.Done.{Done}
-pub use Rattle.manager.specs.declared.types.StorePart.{StorePart}
+pub use Rattle.man_value.specs.declared.StorePart.{StorePart}
 pub use Rattle.man_table.specs.declared.types.Found.{Found}
 pub use Rattle.man_table.specs.declared.types.SdoClientManager.{SdoClientManager}
 pub use Rattle.manager.specs.declared.types.Plan.{Plan}

@@ -1,11 +1,10 @@
 // Rooms: the 4,096 bytes of the store that a connection's job lies in, lent to the connection's own calls.
 ghost use mathlib.Core.Path.{_≡_};
-ghost use Prim.Native.Nat.{_≤_};
 ghost use lib.ListN.{length};
 ghost use Rattle.con_reply.specs.Reply.{replyOf, replied, roomAfter};
 ghost use Rattle.connection.specs.Start.{startWrite, startDcf};
-ghost use Rattle.manager.specs.Calls.{writes, loads, roomIn, withRoom, startedStore, repliedStore};
-ghost use Rattle.man_table.specs.Table.{roomStart};
+ghost use Rattle.manager.specs.Calls.{writes, loads, withRoom, startedStore, repliedStore};
+ghost use Rattle.man_table.specs.Table.{roomIn};
 use codec::command::SdoCommand;
 use codec::sequence::SequenceLayerHeader;
 use con_rec::Mode;
@@ -15,19 +14,8 @@ use con_rec::Taken;
 use con_reply::reply::handle_response;
 use connection::start::start_concise_dcf_job;
 use connection::start::start_write_job;
-use man_table::types::LAST_ROOM;
 use man_table::types::ROOM_SIZE;
-
-// Where a connection's room starts, within the store whatever the record says.
-pub(crate) fn room_start(c: SdoClientConnection) -> usize
-    ensures { λ r. ⌜ (r ≡ roomStart c) × (r ≤ 28672) ⌝ }
-{
-    if c.room < LAST_ROOM {
-        c.room
-    } else {
-        LAST_ROOM
-    }
-}
+use man_value::room_start;
 
 pub(crate) fn room_in(store: &[u8], c: SdoClientConnection) -> &[u8]
     requires { ⌜ length (now store) ≡ 32768 ⌝ }

@@ -7,6 +7,7 @@ use man_table::types::Ends;
 use man_table::types::Entry;
 use man_table::types::SdoClientManager;
 use man_table::types::Turn;
+use man_value::StorePart;
 
 // The least output that a tick or an ask is lent: the longest payload.
 pub const OUTPUT_SIZE: usize = 1452;
@@ -16,12 +17,6 @@ pub struct SentTo {
     pub node: u8,
     pub sequence: SequenceLayerHeader,
     pub command: SdoCommand,
-}
-
-// A part of the store: where it starts and how many bytes it has.
-pub struct StorePart {
-    pub start: usize,
-    pub length: usize,
 }
 
 // What a call answers: nothing; a command that goes out; the part of the store with what a read brought, where a reply ended it Complete; or a refusal.

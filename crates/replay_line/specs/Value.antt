@@ -4,8 +4,8 @@ use Prim.Native.Nat.{ℕ, _/_, _%_}
 use mathlib.Core.List.{[], _∷_, _++_}
 use lib.ListN.{getD, take}
 use Rattle.codec.specs.Bytes.{Bytes}
-use Rattle.manager.specs.Value.{valueIn}
 use Rattle.man_table.specs.Table.{roomSize}
+use Rattle.man_value.specs.Value.{valueIn}
 use Rattle.replay_line.specs.Line.{byteText, colon, column, newline, nothing, numberText}
 use Rattle.replay_line.specs.Text.{hex}
 use Rattle.replay_line.specs.Types.{Answer, PendingRead}

@@ -14,8 +14,8 @@ use codec::sequence::Written;
 use con_rec::PendingRead;
 use con_rec::payload::clip;
 use man_table::types::ROOM_SIZE;
+use man_value::value_in;
 use manager::types::Answer;
-use manager::value::value_in;
 
 // The object, as INDEX:SUB.
 fn put_object(out: &mut [u8], at: usize, index: u16, sub_index: u8) -> usize

@@ -6,8 +6,8 @@ use mathlib.Core.List.{[], _∷_, _++_}
 use lib.ListN.{take, drop, replicate}
 use Rattle.codec.specs.Bytes.{Bytes}
 use Rattle.man_table.specs.Table.{newManager, storeSize}
+use Rattle.man_value.specs.Value.{objectOf}
 use Rattle.manager.specs.Calls.{After, outputSize}
-use Rattle.manager.specs.Value.{objectOf}
 use Rattle.replay_line.specs.Line.{lineOf}
 use Rattle.replay_line.specs.Value.{nodeOf, valueText}
 use Rattle.replay_record.specs.Gather.{gatherSize}

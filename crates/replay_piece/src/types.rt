@@ -1,6 +1,6 @@
 // What a replay goes by, and how far it is.
 use man_table::types::SdoClientManager;
-use manager::types::StorePart;
+use man_value::StorePart;
 use replay_record::plan::Choices;
 
 // What is written of a record: the replay's line; or the line of its value, where it ended a read Complete.

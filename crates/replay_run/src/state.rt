@@ -8,8 +8,8 @@ use con_rec::SdoClientConnectionState;
 use console::number;
 use console::text;
 use man_table::types::SdoClientManager;
+use man_value::value_in;
 use manager::next::next_action_time;
-use manager::value::value_in;
 use replay_piece::types::Progress;
 
 pub(crate) fn byte(b: &[u8], at: usize) -> u8 {

@@ -12,13 +12,13 @@ use Rattle.codec.specs.Writing.{bufferAfter}
 use Rattle.con_rec.specs.Payload.{payloadOf}
 use Rattle.con_reply.specs.Reply.{replied, replyOf, roomAfter}
 use Rattle.laws.proofs.Choices.{decided}
-use Rattle.manager.specs.Calls.{After, Effect, called, carriedOut, outputSize, replies, replyAt, replyBy, replyFrom, roomIn, sentTo, turnOf, turns, walkedTo, withRoom}
+use Rattle.manager.specs.Calls.{After, Effect, called, carriedOut, outputSize, replies, replyAt, replyBy, replyFrom, sentTo, turnOf, turns, walkedTo, withRoom}
 use Rattle.manager.specs.Change.{putting, same}
 use Rattle.manager.specs.Value.{valueOf}
 use Rattle.manager.proofs.ValueCases.{value-by}
 use Rattle.manager.proofs.PlanCalls.{put-done, same-done}
 use Rattle.man_table.specs.Sweep.{endsIn, endsOf, running}
-use Rattle.man_table.specs.Table.{blank, findIn, live, oneFurther, storeSize, tableOf, heldAt}
+use Rattle.man_table.specs.Table.{blank, findIn, live, oneFurther, storeSize, tableOf, heldAt, roomIn}
 use Rattle.man_table.specs.Walk.{Walking, refused, stopped, through, walkList}
 use Rattle.theorems.specs.Run.{reported}
 use Rattle.theorems.specs.Sound.{All}

@@ -6,9 +6,9 @@ use mathlib.Core.List.{List, [], _∷_}
 use lib.ListN.{length, set}
 use Rattle.codec.specs.Bytes.{Bytes}
 use Rattle.con_rec.specs.Record.{endWith}
-use Rattle.manager.specs.Calls.{Call, called, replies, roomIn, starts, turns}
+use Rattle.manager.specs.Calls.{Call, called, replies, starts, turns}
 use Rattle.man_table.specs.Sweep.{endsIn, withEnd}
-use Rattle.man_table.specs.Table.{live, heldAt}
+use Rattle.man_table.specs.Table.{live, heldAt, roomIn}
 use Rattle.man_table.specs.Walk.{Walking, stopped, through, walkList}
 use Rattle.theorems.specs.Reports.{Ascending, Reports}
 use Rattle.theorems.specs.Run.{Host, Lends, another, made, own, reached, reported}

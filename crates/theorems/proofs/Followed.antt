@@ -25,8 +25,8 @@ use Rattle.connection.proofs.TurnView.{AskView, Given, TickView, again, ask-vie
 use Rattle.connection.specs.Ask.{askOf}
 use Rattle.connection.specs.Start.{isIdle}
 use Rattle.connection.specs.Tick.{tickOf}
-use Rattle.manager.specs.Calls.{Call, replies, roomIn, starts, turns}
-use Rattle.man_table.specs.Table.{live}
+use Rattle.manager.specs.Calls.{Call, replies, starts, turns}
+use Rattle.man_table.specs.Table.{live, roomIn}
 use Rattle.man_table.specs.Walk.{atTurn}
 use Rattle.theorems.specs.Quiet.{Holding, connection, holding, nothing}
 use Rattle.theorems.specs.Run.{Event, Host, made, next, reported, run}

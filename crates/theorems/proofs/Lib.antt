@@ -26,6 +26,7 @@ pub mod RefusalLeaves
 pub mod RefusedExactly
 pub mod ReplyChecks
 pub mod Rooms
+pub mod SalvagedJobs
 pub mod SendsDelivered
 pub mod SendsKept
 pub mod SoundCalls

@@ -6,8 +6,8 @@ use lib.ListN.{set}
 use Rattle.codec.specs.Bytes.{Bytes}
 use Rattle.con_rec.specs.Record.{endWith}
 use Rattle.man_table.specs.Sweep.{running, unlessEnd}
-use Rattle.man_table.specs.Table.{heldAt, insertIn, live, placeIn, tableOf}
-use Rattle.manager.specs.Calls.{Call, called, numberOf, replies, roomIn, starts, turns}
+use Rattle.man_table.specs.Table.{heldAt, insertIn, live, placeIn, roomIn, tableOf}
+use Rattle.manager.specs.Calls.{Call, called, numberOf, replies, starts, turns}
 use Rattle.manager.proofs.WalkCalls.{live-table}
 use Rattle.theorems.specs.InPlace.{Neat, Runs}
 use Rattle.theorems.specs.Sound.{All}

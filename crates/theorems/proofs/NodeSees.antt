@@ -19,10 +19,10 @@ use Rattle.con_rec.specs.Record.{endOf}
 use Rattle.con_reply.specs.Reply.{replyOf, roomAfter}
 use Rattle.con_reply.specs.Sent.{Sized}
 use Rattle.con_reply.proofs.StoresWithin.{replied-room}
-use Rattle.manager.specs.Calls.{After, Call, Job, called, jobRoom, numberOf, outputSize, replies, roomIn, sentTo, starts, turns, withRoom}
+use Rattle.manager.specs.Calls.{After, Call, Job, called, jobRoom, numberOf, outputSize, replies, sentTo, starts, turns, withRoom}
 use Rattle.manager.proofs.WalkCalls.{live-table}
 use Rattle.man_table.specs.Sweep.{endsIn, running}
-use Rattle.man_table.specs.Table.{blank, findIn, freeRoom, heldAt, insertIn, live, storeSize, tableOf}
+use Rattle.man_table.specs.Table.{blank, findIn, freeRoom, heldAt, insertIn, live, roomIn, storeSize, tableOf}
 use Rattle.man_table.specs.Walk.{Walking, stopped, through, walkList}
 use Rattle.theorems.specs.Quiet.{Holding, connection, holding, holdingIn, nothing}
 use Rattle.theorems.specs.Run.{Event, Host, Lends, another, made, next, own, reported}

@@ -9,7 +9,8 @@ use Rattle.con_rec.specs.Commands.{commandOf, sequenceOf}
 use Rattle.con_rec.specs.Payload.{payloadOf}
 use Rattle.con_rec.specs.Record.{endOf, newConnection}
 use Rattle.con_reply.specs.Reply.{replied, replyOf, roomAfter}
-use Rattle.manager.specs.Calls.{Call, Job, jobRoom, replies, roomIn, startJob, starts, turns}
+use Rattle.man_table.specs.Table.{roomIn}
+use Rattle.manager.specs.Calls.{Call, Job, jobRoom, replies, startJob, starts, turns}
 use Rattle.manager.specs.Value.{valueOf}
 use Rattle.man_table.specs.Walk.{atTurn}
 use Rattle.theorems.specs.Quiet.{Holding, connection, nothing}

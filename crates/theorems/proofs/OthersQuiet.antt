@@ -14,10 +14,10 @@ use Rattle.con_rec.specs.Record.{endWith}
 use Rattle.con_reply.specs.Reply.{replied, replyOf, roomAfter}
 use Rattle.con_reply.proofs.StoresWithin.{replied-room}
 use Rattle.laws.proofs.Choices.{either}
-use Rattle.manager.specs.Calls.{Call, Job, called, numberOf, replies, roomIn, starts, turns, withRoom}
+use Rattle.manager.specs.Calls.{Call, Job, called, numberOf, replies, starts, turns, withRoom}
 use Rattle.manager.specs.Value.{valueOf}
 use Rattle.man_table.specs.Sweep.{endsIn, running, unlessEnd, withEnd}
-use Rattle.man_table.specs.Table.{blank, freeRoom, insertAt, insertIn, live, roomSize, storeSize, tableOf, heldAt}
+use Rattle.man_table.specs.Table.{blank, freeRoom, insertAt, insertIn, live, roomSize, storeSize, tableOf, heldAt, roomIn}
 use Rattle.theorems.specs.Quiet.{ForAnother, Holding, QuietOthers, connection, holding, holdingIn}
 use Rattle.theorems.specs.Run.{Host, Lends, another, next, own, reached}
 use Rattle.theorems.specs.Sound.{All, Reached, Sane, Slotted, Sound}

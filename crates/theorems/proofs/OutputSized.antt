@@ -11,9 +11,9 @@ use Rattle.codec.specs.Writing.{bufferAfter}
 use Rattle.con_rec.specs.Commands.{commandOf}
 use Rattle.con_rec.specs.Parts.{most}
 use Rattle.con_rec.specs.Payload.{payloadOf}
-use Rattle.manager.specs.Calls.{After, Call, called, outputSize, replies, roomIn, starts, turns}
+use Rattle.manager.specs.Calls.{After, Call, called, outputSize, replies, starts, turns}
 use Rattle.manager.proofs.ValueCases.{value-by}
-use Rattle.man_table.specs.Table.{blank, live}
+use Rattle.man_table.specs.Table.{blank, live, roomIn}
 use Rattle.theorems.specs.Run.{Host, Lends, another, made, own, reached}
 use Rattle.theorems.specs.Sizes.{IsTurn, Sizes}
 use Rattle.theorems.specs.Sound.{Reached, Sound}

@@ -13,10 +13,10 @@ use Rattle.con_reply.specs.Reply.{replyOf}
 use Rattle.laws.specs.Checks.{Check, check}
 use Rattle.laws.specs.Pick.{pick}
 use Rattle.laws.proofs.Choices.{decided, either}
-use Rattle.manager.specs.Calls.{After, Call, Effect, Job, called, idleOf, numberOf, outputSize, replies, replyAt, replyBy, replyFrom, roomIn, seatIn, seatOf, startAt, startOf, startedAs, starts, takesNumber, turnOf, turns, walkedTo}
+use Rattle.manager.specs.Calls.{After, Call, Effect, Job, called, idleOf, numberOf, outputSize, replies, replyAt, replyBy, replyFrom, seatIn, seatOf, startAt, startOf, startedAs, starts, takesNumber, turnOf, turns, walkedTo}
 use Rattle.manager.specs.Change.{changeDone, same, taking}
 use Rattle.manager.proofs.ValueCases.{value-by}
-use Rattle.man_table.specs.Table.{blank, findIn, freeRoom, live, storeSize, heldAt, targetAt, targetOf}
+use Rattle.man_table.specs.Table.{blank, findIn, freeRoom, live, storeSize, heldAt, targetAt, targetOf, roomIn}
 use Rattle.man_table.specs.Walk.{Walking, refused, stopped, through, walkList}
 use Rattle.theorems.specs.Causes.{
   BusyAs,

@@ -14,9 +14,9 @@ use Rattle.con_reply.proofs.ReplySound.{reply-sound as replied-sound}
 use Rattle.con_reply.proofs.StartCarries.{begun-job}
 use Rattle.con_reply.proofs.StepSound.{Steps, ask-sound, other-room, read-sound, tick-sound}
 use Rattle.con_reply.proofs.StoresWithin.{replied-room}
-use Rattle.manager.specs.Calls.{Job, jobRoom, loads, reads, roomIn, startJob, withRoom, writes}
+use Rattle.manager.specs.Calls.{Job, jobRoom, loads, reads, startJob, withRoom, writes}
 use Rattle.man_table.specs.Sweep.{running}
-use Rattle.man_table.specs.Table.{blank, live, roomSize, storeSize, tableOf, heldAt}
+use Rattle.man_table.specs.Table.{blank, live, roomSize, storeSize, tableOf, heldAt, roomIn}
 use Rattle.man_table.specs.Walk.{Walking, atTurn, walkList}
 use Rattle.theorems.specs.Sound.{All, Ordered, Sane, Slotted, Sound}
 use Rattle.theorems.specs.Types.{

@@ -6,8 +6,8 @@ use mathlib.Core.List.{List}
 use lib.ListN.{length, set}
 use Rattle.codec.specs.Bytes.{Bytes}
 use Rattle.con_reply.proofs.StepSound.{new-sound}
-use Rattle.manager.specs.Calls.{Job, called, jobRoom, numberOf, roomIn, starts}
-use Rattle.man_table.specs.Table.{freeRoom, insertIn, live, placeIn, roomSize, storeSize, tableOf, heldAt}
+use Rattle.manager.specs.Calls.{Job, called, jobRoom, numberOf, starts}
+use Rattle.man_table.specs.Table.{freeRoom, insertIn, live, placeIn, roomSize, storeSize, tableOf, heldAt, roomIn}
 use Rattle.theorems.specs.Sound.{All, Sane, Slotted, Sound}
 use Rattle.theorems.specs.Types.{
   Answer,

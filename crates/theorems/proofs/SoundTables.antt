@@ -11,9 +11,9 @@ use Rattle.con_reply.specs.Consistent.{Consistent, isEnded}
 use Rattle.con_reply.proofs.StepSound.{other-room}
 use Rattle.con_rec.specs.Record.{endOf, endWith}
 use Rattle.laws.proofs.Choices.{decided}
-use Rattle.manager.specs.Calls.{numberOf, roomIn}
+use Rattle.manager.specs.Calls.{numberOf}
 use Rattle.man_table.specs.Sweep.{running, unlessEnd}
-use Rattle.man_table.specs.Table.{insertIn, live, placeIn, tableOf}
+use Rattle.man_table.specs.Table.{insertIn, live, placeIn, roomIn, tableOf}
 use Rattle.theorems.specs.Sound.{All, Ordered, Sane, Slotted, Sound}
 use Rattle.theorems.specs.Types.{EndFound, Outcome, SdoClientConnection as Connection, SdoClientManager as Manager}
 use Rattle.theorems.proofs.AllLists.{Each}

@@ -10,9 +10,9 @@ use Rattle.laws.specs.Pick.{pick}
 use Rattle.codec.specs.Bytes.{Bytes}
 use Rattle.con_rec.specs.Record.{newConnection}
 use Rattle.laws.proofs.Choices.{decided}
-use Rattle.manager.specs.Calls.{Effect, Job, called, carriedOut, jobRoom, numberOf, refuses, roomIn, seatIn, seatOf, startAt, startJob, startOf, startedAs, startedStore, starts, takesNumber, withRoom}
+use Rattle.manager.specs.Calls.{Effect, Job, called, carriedOut, jobRoom, numberOf, refuses, seatIn, seatOf, startAt, startJob, startOf, startedAs, startedStore, starts, takesNumber, withRoom}
 use Rattle.manager.specs.Change.{changeDone, enteredAt, numberAfter}
-use Rattle.man_table.specs.Table.{findIn, freeRoom, insertIn, live, storeSize, tableOf, heldAt, targetAt, targetOf}
+use Rattle.man_table.specs.Table.{findIn, freeRoom, insertIn, live, storeSize, tableOf, heldAt, targetAt, targetOf, roomIn}
 use Rattle.theorems.specs.Types.{
   Answer,
   Change,

@@ -20,11 +20,13 @@ use Rattle.con_reply.specs.Jobs.{Job as Sending, entriesOf, loads as sendsDcf, 
 use Rattle.connection.proofs.TurnView.{AskView, TickView, again, ask-view, early, ends, gives, late, never, over, silent, tick-view}
 use Rattle.connection.specs.Ask.{askOf}
 use Rattle.connection.specs.Tick.{tickOf}
-use Rattle.manager.proofs.ValueCases.{value-as, value-room}
-use Rattle.manager.specs.Calls.{After, Call, Job, called, loads, reads, replies, roomIn, starts, turns, writes}
-use Rattle.manager.specs.Value.{isComplete, objectAt, valueBy, valueFor, valueIn, valueOf}
-use Rattle.man_table.specs.Table.{findIn, live, oneFurther, roomSize, roomStart, storeSize}
+use Rattle.manager.proofs.ValueCases.{value-as}
+use Rattle.manager.specs.Calls.{After, Call, Job, called, loads, reads, replies, starts, turns, writes}
+use Rattle.manager.specs.Value.{valueBy, valueFor, valueOf}
+use Rattle.man_table.specs.Table.{findIn, live, oneFurther, roomIn, roomSize, roomStart, storeSize}
 use Rattle.man_table.specs.Walk.{atTurn}
+use Rattle.man_value.proofs.ValueRoom.{value-room}
+use Rattle.man_value.specs.Value.{isComplete, objectAt, valueIn}
 use Rattle.theorems.specs.Demand.{jobOf}
 use Rattle.theorems.specs.Quiet.{Holding, connection, holding, holdingIn, nothing as unheld}
 use Rattle.theorems.specs.Run.{Event, Host, Lends, another, made, next, own, reached, reported, run}

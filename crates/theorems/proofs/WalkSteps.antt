@@ -9,8 +9,7 @@ use Rattle.codec.specs.Bytes.{Bytes}
 use Rattle.con_reply.proofs.StepSound.{ask-sized, tick-sized}
 use Rattle.con_reply.specs.Sent.{AllSized, Sized}
 use Rattle.con_rec.specs.Record.{endOf}
-use Rattle.manager.specs.Calls.{roomIn}
-use Rattle.man_table.specs.Table.{blank}
+use Rattle.man_table.specs.Table.{blank, roomIn}
 use Rattle.theorems.specs.Sound.{Sane}
 use Rattle.man_table.specs.Sweep.{running, unlessEnd}
 use Rattle.man_table.specs.Walk.{Walking, passed, refused, stopOr, stopped, through, atTurn, walkList, walkStep}

@@ -7,6 +7,7 @@ pub mod Published
 pub mod Quiet
 pub mod Reports
 pub mod Run
+pub mod Salvage
 pub mod SelfCall
 pub mod Sizes
 pub mod Sound

@@ -6,8 +6,8 @@ use mathlib.Core.List.{List, [], _∷_}
 use lib.Dec.{eqb}
 use Rattle.laws.specs.Pick.{pick}
 use Rattle.codec.specs.Bytes.{Bytes}
-use Rattle.manager.specs.Calls.{Call, replies, roomIn, starts, turns}
-use Rattle.man_table.specs.Table.{live}
+use Rattle.manager.specs.Calls.{Call, replies, starts, turns}
+use Rattle.man_table.specs.Table.{live, roomIn}
 use Rattle.theorems.specs.Run.{Event, Host, next, reached}
 use Rattle.theorems.specs.Types.{SdoClientConnection, SdoClientManager}
 

@@ -7,8 +7,7 @@ use mathlib.Core.List.{List, [], _∷_}
 use lib.ListN.{length}
 use Rattle.codec.specs.Bytes.{Bytes}
 use Rattle.con_reply.specs.Consistent.{Consistent, isClosed}
-use Rattle.manager.specs.Calls.{roomIn}
-use Rattle.man_table.specs.Table.{lastRoom, live, roomSize, tableOf}
+use Rattle.man_table.specs.Table.{lastRoom, live, roomIn, roomSize, tableOf}
 use Rattle.theorems.specs.Run.{Event, Host, reached}
 use Rattle.theorems.specs.Types.{Outcome, SdoClientConnection, SdoClientManager}
 

@@ -31,9 +31,9 @@ pub use Rattle.manager.specs.declared.types.Answer.{Answer}
 pub use Rattle.manager.specs.declared.types.Change.{Change}
 pub use Rattle.manager.specs.declared.types.Done.{Done}
 pub use Rattle.manager.specs.declared.types.SentTo.{SentTo}
-pub use Rattle.manager.specs.declared.types.StorePart.{StorePart}
 pub use Rattle.man_table.specs.declared.types.Ends.{Ends}
 pub use Rattle.man_table.specs.declared.types.Entry.{Entry}
 pub use Rattle.man_table.specs.declared.types.Found.{Found}
 pub use Rattle.man_table.specs.declared.types.SdoClientManager.{SdoClientManager}
 pub use Rattle.man_table.specs.declared.types.Turn.{Turn}
+pub use Rattle.man_value.specs.declared.StorePart.{StorePart}

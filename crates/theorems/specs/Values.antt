@@ -7,8 +7,8 @@ use mathlib.Core.List.{List, []}
 use Rattle.laws.specs.Pick.{pick}
 use Rattle.codec.specs.Bytes.{Bytes}
 use Rattle.manager.specs.Calls.{After, Call, Job, loads, reads, replies, starts, turns, writes}
-use Rattle.manager.specs.Value.{isComplete, objectOf, valueIn}
 use Rattle.man_table.specs.Table.{roomSize, storeSize}
+use Rattle.man_value.specs.Value.{isComplete, objectOf, valueIn}
 use Rattle.theorems.specs.Figures.{entriesIn}
 use Rattle.theorems.specs.Run.{Event, Host, made, next, reached, reported, run, starting}
 use Rattle.theorems.specs.Story.{Log, endFor, follow, told, untold}

@@ -15,8 +15,6 @@ mod command_write;
 #[cfg(has_oracle)]
 mod dcf;
 #[cfg(has_oracle)]
-mod drive;
-#[cfg(has_oracle)]
 mod layout;
 #[cfg(has_oracle)]
 mod request;

@@ -1,4 +1,4 @@
-//! Why a line could not be shown.
+//! Why a line, or a DCF, could not be shown.
 
 use ostelumiv::Refusal;
 use std::fmt;
@@ -7,9 +7,9 @@ use std::fmt;
 pub enum Bad {
     /// The text is none: what was expected of it.
     Expected(&'static str),
-    /// The bytes are no SDO frame: what was expected of them, and what they are.
+    /// The bytes are no SDO frame, or too many: what was expected of them, and what they are.
     Found(&'static str, String),
-    /// The codec's answer to the frame.
+    /// The codec's answer to the frame or the DCF.
     Refused(Refusal),
 }
 

@@ -1,10 +1,11 @@
-//! The panel's display: SDO frames in hex, or the lines that the replay or values print, as a picture in words.
+//! The panel's display: SDO frames in hex, the lines that the replay or values print, or a concise DCF, as a picture in words.
 //!
-//! A frame is what the client sends or receives: the sequence header, then the command. The bytes are
+//! A frame is what the client sends or receives: the sequence header, then the command. The bytes of frames and of a DCF are
 //! read by the proved codec; this crate only finds words for what it answers.
 
 mod bad;
 mod colour;
+mod dcf;
 mod frames;
 mod replay;
 mod row;
@@ -17,7 +18,7 @@ mod wrapped;
 use bad::Bad;
 pub use colour::When;
 use row::{Row, Tone};
-use std::io::{self, BufRead, Write};
+use std::io::{self, BufRead, Read, Write};
 
 /// What the input's lines are.
 #[derive(Debug, Clone, Copy, PartialEq, Eq)]
@@ -77,9 +78,25 @@ pub fn run(
             all_shown = false;
             vec![Row::new(Tone::Trouble, format!("line {number}: {bad}"))]
         });
-        for row in &rows {
-            colour::put(output, row, coloured).map_err(program::of_output)?;
-        }
+        put(&rows, coloured, output)?;
     }
     Ok(all_shown)
+}
+
+/// Shows the DCF that the input is, and answers whether it could be shown. Where it could not, the one row tells why.
+pub fn run_dcf(coloured: bool, input: &mut impl Read, output: &mut impl Write) -> io::Result<bool> {
+    let bytes = dcf::read(input).map_err(program::of_input)?;
+    let mut shown = true;
+    let rows = dcf::rows(&bytes).unwrap_or_else(|bad| {
+        shown = false;
+        vec![Row::new(Tone::Trouble, bad.to_string())]
+    });
+    put(&rows, coloured, output)?;
+    Ok(shown)
+}
+
+fn put(rows: &[Row], coloured: bool, output: &mut impl Write) -> io::Result<()> {
+    rows.iter()
+        .try_for_each(|row| colour::put(output, row, coloured))
+        .map_err(program::of_output)
 }

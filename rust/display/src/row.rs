@@ -8,15 +8,16 @@ pub struct Row {
 
 #[derive(Debug, Clone, Copy, PartialEq, Eq)]
 pub enum Tone {
-    /// What the client sends, or a frame with no direction.
+    /// What the client sends, or a frame with no direction; of a DCF its count and its readable entries.
     Plain,
     /// What a node answers, and the value that came of it.
     Answer,
     /// A record of which nothing came.
     Quiet,
-    /// A job that ended Complete.
+    /// A job that ended Complete, a DCF that is readable as a whole.
     Good,
-    /// An abort, a refusal, a job that ended otherwise, a line that cannot be shown, a frame that may be none.
+    /// An abort, a refusal, a job that ended otherwise, a line that cannot be shown, a frame that may be none, what
+    /// is wrong with a DCF.
     Trouble,
 }
 
@@ -44,5 +45,18 @@ pub fn object(index: u16, sub_index: u8) -> String {
 }
 
 pub fn size(bytes: usize) -> String {
-    format!("{bytes:>4} byte{}", if bytes == 1 { "" } else { "s" })
+    format!("{bytes:>4} {}", word(bytes, "byte", "bytes"))
+}
+
+/// A number in a sentence, and the words for one or for many.
+pub fn counted(number: usize, one: &str, many: &str) -> String {
+    format!("{number} {}", word(number, one, many))
+}
+
+fn word<'a>(number: usize, one: &'a str, many: &'a str) -> &'a str {
+    if number == 1 {
+        one
+    } else {
+        many
+    }
 }

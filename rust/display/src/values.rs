@@ -31,8 +31,8 @@ pub fn row(text: &[u8]) -> Result<Row, Bad> {
     Ok(Row::new(Tone::Answer, text))
 }
 
-/// As a number and as a text, where the bytes can be one; else the bytes.
-fn words(data: &[u8]) -> String {
+/// Data as a number and as a text, where the bytes can be one; else the bytes.
+pub fn words(data: &[u8]) -> String {
     if data.is_empty() {
         return "no data".into();
     }

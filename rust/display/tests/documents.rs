@@ -1,6 +1,6 @@
 //! The runs in traces/ as pictures, and the documents' quotes of what is shown.
 
-use display::{run, Notation};
+use display::{run, run_dcf, Notation};
 use ostelumiv::Refusal;
 use std::fs;
 use std::path::{Path, PathBuf};
@@ -24,6 +24,27 @@ fn picture(name: &str) -> String {
     shown(Notation::Replay, &text(&lines))
 }
 
+/// What a trace gathers for a job.
+fn gathered(name: &str) -> Vec<u8> {
+    let trace = text(&root().join("traces").join(name).with_extension("txt"));
+    let gathers = trace
+        .lines()
+        .filter_map(|line| line.strip_prefix("gather "));
+    let data = gathers.map(|data| data.split_once('#').map_or(data, |(data, _)| data));
+    data.flat_map(|data| hex::bytes(data.as_bytes()).unwrap())
+        .collect()
+}
+
+/// The bytes that the commands in a document print, `\x` ahead of each.
+fn printed(document: &str) -> Vec<u8> {
+    text(&root().join(document))
+        .split("printf '")
+        .skip(1)
+        .map(|rest| rest.split('\'').next().unwrap().replace("\\x", " "))
+        .flat_map(|digits| hex::bytes(digits.as_bytes()).unwrap())
+        .collect()
+}
+
 /// The rows quoted in a document, indented there by four blanks.
 fn quotes(document: &str, rows: &str) {
     let document = text(&root().join(document));
@@ -44,6 +65,24 @@ fn the_guide_has_the_values_of_a_run() {
     let lines = text(&root().join("traces/values.values"));
     quotes("docs/TRACES.md", &lines);
     quotes("docs/TRACES.md", &shown(Notation::Values, &lines));
+}
+
+fn dcf_in_words(mut dcf: &[u8]) -> String {
+    let mut output = Vec::new();
+    assert!(run_dcf(false, &mut dcf, &mut output).unwrap());
+    String::from_utf8(output).unwrap()
+}
+
+/// The DCF that is printed there is that of the trace and of salvage's sample; it is shown before and after the repair.
+#[test]
+fn the_guide_has_a_repair_in_words() {
+    let guide = "docs/SALVAGE.md";
+    let sample = root().join("crates/salvage");
+    let [cut, new] = ["stdin", "stdout"].map(|name| fs::read(sample.join(name)).unwrap());
+    assert_eq!(cut, printed(guide));
+    assert_eq!(cut, gathered("cut-dcf"));
+    quotes(guide, &dcf_in_words(&cut));
+    quotes(guide, &dcf_in_words(&new));
 }
 
 /// The hex that a document echoes, and the row below it.

@@ -57,6 +57,33 @@ fn a_bad_line_is_told_the_rest_is_shown_and_the_status_is_1() {
     assert_eq!(shown(&["values"], lines, 1), told);
 }
 
+/// One entry and its count, and the rows of that.
+const DCF: &[u8] = b"\x01\0\0\0\x00\x21\x01\x02\0\0\0\xED\x03";
+const DCF_ROWS: [&str; 3] = [
+    "count 1, 13 bytes",
+    "    1  at     4  2100:01     2 bytes  unsigned 1005, signed 1005",
+    "readable: 1 of 1 entry, 13 bytes; nothing is dropped",
+];
+
+#[test]
+fn a_dcf_and_its_colours() {
+    let text = shown(&["dcf"], DCF, 0);
+    assert_eq!(text, DCF_ROWS.join("\n") + "\n");
+    let [count, entry, end] = DCF_ROWS;
+    let coloured = format!("{count}\n{entry}\n\x1B[32m{end}\x1B[0m\n");
+    assert_eq!(shown(&["--color=always", "dcf"], DCF, 0), coloured);
+}
+
+/// A DCF that is cut is shown. One without a count is told, and so is an input that is too long, which is not read to its end.
+#[test]
+fn a_dcf_that_is_not_shown_has_the_status_1() {
+    let cut = shown(&["dcf"], &DCF[..12], 0);
+    assert!(cut.ends_with("; 8 bytes are dropped, from offset 4 on\n"));
+    assert_eq!(shown(&["dcf"], &DCF[..3], 1), "refused 5 DcfTooShort\n");
+    let told = "expected a DCF of at most 65536 bytes; found more\n";
+    assert_eq!(shown(&["dcf"], &[0; 1_000_000], 1), told);
+}
+
 #[test]
 fn the_programs_arguments() {
     let help = shown(&["--help"], b"", 0);
@@ -68,6 +95,7 @@ fn the_programs_arguments() {
         (&["--color=sometimes"], "--color=sometimes"),
         (&["replay", "file"], "file"),
         (&["value"], "value"),
+        (&["dcf", "cut.dcf"], "cut.dcf"),
         (&["-h"], "-h"),
         (&[""], ""),
     ] {
@@ -75,10 +103,11 @@ fn the_programs_arguments() {
         assert_eq!(output.status.code(), Some(2), "{arguments:?}");
         assert!(output.stdout.is_empty());
         let told = format!(
-            "display: expected replay, values, --color=always, --color=never, --color=auto or \
+            "display: expected replay, values, dcf, --color=always, --color=never, --color=auto or \
              --help; found '{wrong}'\nusage: display [--color=WHEN] < FRAMES\n       \
              display replay [--color=WHEN] < LINES\n       \
-             display values [--color=WHEN] < VALUES\ndisplay --help tells more\n"
+             display values [--color=WHEN] < VALUES\n       \
+             display dcf [--color=WHEN] < DCF\ndisplay --help tells more\n"
         );
         assert_eq!(String::from_utf8(output.stderr).unwrap(), told);
     }

@@ -1,10 +1,17 @@
 //! What the programs of the Rust side share: their standard streams, the exit status where one of these
-//! fails or the arguments are wrong, and a run of another program.
+//! fails or the arguments are wrong, a file that one writes, and a run of another program.
+
+pub mod proved;
+#[cfg(unix)]
+pub mod stand_in;
+pub mod usage;
 
 use std::env;
 use std::ffi::OsString;
 use std::fmt::Display;
+use std::fs;
 use std::io::{self, ErrorKind, Read, Write};
+use std::path::Path;
 use std::process::{Command, ExitCode, Output, Stdio};
 use std::thread;
 
@@ -35,6 +42,11 @@ pub fn put(bytes: &[u8]) -> io::Result<ExitCode> {
     let written = output.write_all(bytes).and_then(|()| output.flush());
     written.map_err(of_output)?;
     Ok(ExitCode::SUCCESS)
+}
+
+/// Writes a file to a folder that is there. An error names the file.
+pub fn write_file(folder: &Path, name: &str, bytes: &[u8]) -> Result<(), String> {
+    fs::write(folder.join(name), bytes).map_err(|error| format!("{name}: {error}"))
 }
 
 /// An error of standard input, told as such.

@@ -19,7 +19,7 @@ use std::fmt::Write;
 
 /// The limits of document 01, which the repository does not have.
 pub const MOST_HELD: usize = 8;
-pub const MOST_BYTES: usize = 4_096;
+pub use concise_dcf::MOST_BYTES;
 
 /// The bytes of an abort code.
 const CODE_BYTES: usize = 4;

@@ -5,8 +5,8 @@ use crate::cover::{self, Covered};
 use crate::difference::{difference, Numbering};
 use crate::generate::Run;
 use crate::head::Modes;
-use crate::programs::Program;
 use crate::rules::{self, Row, Rule, PUBLISHED};
+use program::proved::Program;
 use std::fmt::Write as _;
 use std::io::{self, Write};
 

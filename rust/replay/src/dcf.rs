@@ -1,9 +1,6 @@
 //! A concise DCF's readable entries (document 01, "Bytes"), as far as a job's end depends on them.
 
-pub const COUNT_BYTES: usize = 4;
-pub const ENTRY_HEAD: usize = 7;
-/// Index, sub-index and 0, which go out ahead of an entry's data.
-pub const SENT_HEAD: usize = 4;
+pub use concise_dcf::{COUNT_BYTES, ENTRY_HEAD, SENT_HEAD};
 
 /// The readable entries by their total, the bytes that each is sent as.
 #[derive(Debug, Clone, PartialEq, Eq)]

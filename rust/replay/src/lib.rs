@@ -22,7 +22,6 @@ mod line;
 mod mirror;
 mod observe;
 mod parameters;
-mod programs;
 mod published;
 mod refusal;
 pub mod rules;

@@ -1,12 +1,16 @@
 //! The repository's manager as a replay, and our replay programs against it. USAGE has the modes.
 
+use program::usage::Usage;
 #[cfg(has_oracle)]
 use replay_oracle::head::Modes;
-use std::env;
-use std::io::{self, ErrorKind, Write};
+use std::io;
+#[cfg(has_oracle)]
+use std::io::Write;
 use std::process::ExitCode;
 
-const USAGE: &str = "\
+const USAGE: Usage = Usage {
+    program: "replay_oracle",
+    text: "\
 usage: replay_oracle MODE
   plain                   a trace on standard input, document 01's lines on standard output
   state                   the same with eleven bytes ahead of the trace (parameters, modes), and a state
@@ -21,32 +25,13 @@ usage: replay_oracle MODE
   trace SEED [published] | longest [published] | values
                           the drawn trace of a seed, or one of 65,535 records and more: of any kind (in
                           published mode: about parts), or about values; with the eleven bytes ahead
-  fixed CRATES            writes the sample of traces and lines that runs without Rust
-  drawn CRATES            writes the long trace and its lines that the gate runs
-exit status: 0 all is well, 1 it is not";
+  fixed ROOT              writes the samples of traces and lines that run without Rust, below the
+                          root of this repository
+exit status: 0 all is well, 1 it is not",
+};
 
 fn main() -> ExitCode {
-    let arguments: Vec<_> = env::args_os().skip(1).collect();
-    let words: Vec<_> = arguments
-        .iter()
-        .map(|word| word.to_string_lossy())
-        .collect();
-    let words: Vec<&str> = words.iter().map(|word| word.as_ref()).collect();
-    let done = match words[..] {
-        ["--help"] => writeln!(io::stdout(), "{USAGE}").map(|()| true),
-        _ => run(&words),
-    };
-    match done {
-        Ok(true) => ExitCode::SUCCESS,
-        Ok(false) => ExitCode::FAILURE,
-        Err(error) => {
-            // Whoever reads the output has seen enough of it; but what was cut is not well.
-            if error.kind() != ErrorKind::BrokenPipe {
-                program::tell("replay_oracle", error);
-            }
-            ExitCode::FAILURE
-        }
-    }
+    USAGE.run(run)
 }
 
 /// Answers whether all is well.
@@ -59,11 +44,11 @@ fn run(arguments: &[&str]) -> io::Result<bool> {
     match arguments {
         [mode @ ("cover" | "compare"), records] => return run(&[mode, records, "0"]),
         ["compare", records, seed] => {
-            return compare::run(number(records)?, number(seed)?, &mut output)
+            return compare::run(USAGE.number(records)?, USAGE.number(seed)?, &mut output)
         }
         ["cover", records, seed] => {
             for modes in [Modes::REPOSITORY, Modes::PUBLISHED] {
-                let (records, seed) = (number(records)?, number(seed)?);
+                let (records, seed) = (USAGE.number(records)?, USAGE.number(seed)?);
                 let covered = cover::each_trace(modes, records, seed, |_, _| Ok(()))?;
                 output.write_all(covered.text().as_bytes())?;
             }
@@ -73,15 +58,11 @@ fn run(arguments: &[&str]) -> io::Result<bool> {
         ["values"] => stream::values(io::stdin().lock(), &mut output)?,
         ["trace", which] => output.write_all(&trace(which, Modes::REPOSITORY)?)?,
         ["trace", which, "published"] => output.write_all(&trace(which, Modes::PUBLISHED)?)?,
-        ["fixed", crates] => {
-            let table = fixed::write(Path::new(crates)).map_err(io::Error::other)?;
+        ["fixed", root] => {
+            let table = fixed::write(Path::new(root)).map_err(io::Error::other)?;
             output.write_all(table.as_bytes())?;
         }
-        ["drawn", crates] => {
-            let told = fixed::write_drawn(Path::new(crates)).map_err(io::Error::other)?;
-            output.write_all(told.as_bytes())?;
-        }
-        _ => return Err(called_wrongly(arguments)),
+        _ => return Err(USAGE.called_wrongly(arguments)),
     }
     output.flush()?;
     Ok(true)
@@ -95,31 +76,12 @@ fn trace(which: &str, modes: Modes) -> io::Result<Vec<u8>> {
     let run = match which {
         "longest" => generate::longest(modes),
         "values" if !modes.published => generate::longest_about_values(),
-        seed => generate::drawn(modes, number(seed)?),
+        seed => generate::drawn(modes, USAGE.number(seed)?),
     };
     Ok(run.map_err(io::Error::other)?.with_head())
 }
 
-#[cfg(has_oracle)]
-fn called_wrongly(arguments: &[&str]) -> io::Error {
-    let found = match arguments {
-        [] => "nothing".into(),
-        words => format!("'{}'", words.join(" ").escape_debug()),
-    };
-    io::Error::other(format!(
-        "expected a mode with what it takes; found {found}\n{USAGE}"
-    ))
-}
-
-#[cfg(has_oracle)]
-fn number<T: std::str::FromStr>(text: &str) -> io::Result<T> {
-    text.parse()
-        .map_err(|_| io::Error::other(format!("{text} is no number\n{USAGE}")))
-}
-
 #[cfg(not(has_oracle))]
 fn run(_: &[&str]) -> io::Result<bool> {
-    Err(io::Error::other(format!(
-        "not run: the repository's client was not found; OSTELUMIV_ORACLE names its folder\n{USAGE}"
-    )))
+    Err(USAGE.no_oracle())
 }

@@ -3,8 +3,8 @@
 
 #![cfg(all(has_oracle, unix))]
 
+use program::stand_in;
 use std::fs;
-use std::os::unix::fs::PermissionsExt;
 use std::path::{Path, PathBuf};
 use std::process::Command;
 
@@ -13,12 +13,7 @@ const ORACLE: &str = env!("CARGO_BIN_EXE_replay_oracle");
 /// A folder with scripts of these names and commands.
 fn folder(name: &str, scripts: &[(&str, &str)]) -> PathBuf {
     let folder = Path::new(env!("CARGO_TARGET_TMPDIR")).join(name);
-    fs::create_dir_all(&folder).unwrap();
-    for (script, command) in scripts {
-        let path = folder.join(script);
-        fs::write(&path, format!("#!/bin/sh\n{command}\n")).unwrap();
-        fs::set_permissions(&path, fs::Permissions::from_mode(0o755)).unwrap();
-    }
+    stand_in::scripts(&folder, scripts);
     folder
 }
 

@@ -1,5 +1,5 @@
-//! The fixed traces and lines: what stands in the crates' folders is what the oracle says now, and it
-//! reaches every rule that such files can.
+//! The fixed traces and lines: what stands in samples and in the crates' folders is what the oracle says
+//! now, and it reaches every rule that such files can.
 
 #![cfg(has_oracle)]
 
@@ -27,10 +27,10 @@ fn file(name: &str) -> Vec<u8> {
     found.unwrap().1
 }
 
-/// `replay_oracle fixed crates` writes them anew.
+/// `replay_oracle fixed ROOT` writes them anew.
 #[test]
 fn the_files_are_those_that_stand_here() {
-    let folder = Path::new(env!("CARGO_MANIFEST_DIR")).join("../../crates");
+    let folder = Path::new(env!("CARGO_MANIFEST_DIR")).join("../..");
     for (name, bytes) in fixed::files().unwrap().0 {
         let found = fs::read(folder.join(name)).unwrap();
         assert!(found == bytes, "{name} is not what the oracle says now");
@@ -43,7 +43,8 @@ fn they_reach_every_other_rule_in_a_few_thousand_records() {
     let [repository, published] = counts;
     assert_eq!(repository.missing(Modes::REPOSITORY), NOT_REACHED);
     assert_eq!(published.missing(Modes::PUBLISHED), []);
-    let traces = files.iter().filter(|(name, _)| name.ends_with("/stdin"));
+    let is_trace = |name: &str| name.ends_with("/stdin") || name.ends_with(".records");
+    let traces = files.iter().filter(|(name, _)| is_trace(name));
     let records: usize = traces.map(|(_, trace)| trace.len() / 32).sum();
     assert!(records < 9_000, "{records}");
 }
@@ -51,25 +52,25 @@ fn they_reach_every_other_rule_in_a_few_thousand_records() {
 #[test]
 fn the_oracle_as_a_stream_says_the_same() {
     let mut lines = Vec::new();
-    stream::plain(&file("replay_fixed/stdin")[..], &mut lines).unwrap();
-    assert!(lines == file("replay_fixed/stdout"));
-    for name in [
-        "replay_states",
-        "replay_states_retries",
-        "replay_states_published",
+    stream::plain(&file("samples/fixed.records")[..], &mut lines).unwrap();
+    assert!(lines == file("samples/fixed.lines"));
+    for (records, expected) in [
+        ("crates/replay_states/stdin", "crates/replay_states/stdout"),
+        ("samples/retries.records", "samples/retries.lines"),
+        ("samples/published.records", "samples/published.lines"),
     ] {
         let mut lines = Vec::new();
-        stream::with_state(&file(&format!("{name}/stdin"))[..], &mut lines).unwrap();
-        assert!(lines == file(&format!("{name}/stdout")), "{name}");
+        stream::with_state(&file(records)[..], &mut lines).unwrap();
+        assert!(lines == file(expected), "{records}");
     }
     let mut lines = Vec::new();
-    stream::values(&file("values/stdin")[..], &mut lines).unwrap();
-    assert!(lines == file("values/stdout"));
+    stream::values(&file("crates/values/stdin")[..], &mut lines).unwrap();
+    assert!(lines == file("crates/values/stdout"));
 }
 
 #[test]
 fn the_edges_of_document_01() {
-    let replay = String::from_utf8(file("replay_fixed/stdout")).unwrap();
+    let replay = String::from_utf8(file("samples/fixed.lines")).unwrap();
     let run = "\
 1 1 0 - - -
 2 6 0 5 FC0100000001000000000000 -
@@ -79,7 +80,7 @@ fn the_edges_of_document_01() {
 ";
     assert!(replay.starts_with(run));
     assert!(replay.ends_with(" - 11 - - -\n"));
-    let state = String::from_utf8(file("replay_states/stdout")).unwrap();
+    let state = String::from_utf8(file("crates/replay_states/stdout")).unwrap();
     let abort = state.lines().nth(2).unwrap();
     assert_eq!(abort, "2 5 0 1 FE000000000120000400000000000405 1:T:0");
 }

@@ -3,6 +3,8 @@
 
 use crate::client::MOST_BYTES;
 use crate::dcf::{COUNT_BYTES, ENTRY_HEAD, SENT_HEAD};
+pub use concise_dcf::draw::counted;
+use concise_dcf::draw::{set_count, set_size};
 use oracle::ObjectDictionary;
 use record::MOST_DATA;
 use rng::Rng;
@@ -71,22 +73,6 @@ pub fn upload_length(rng: &mut Rng, uploaded: usize, many: usize) -> usize {
     length.min(MOST_PAYLOAD)
 }
 
-/// An entry of a DCF: a drawn object, and data of the given length.
-fn put_entry(rng: &mut Rng, dcf: &mut Vec<u8>, length: usize) {
-    dcf.extend(rng.bytes(3));
-    dcf.extend((length as u32).to_le_bytes());
-    dcf.extend(rng.bytes(length));
-}
-
-/// A whole DCF whose entries have data of these lengths.
-pub fn counted(rng: &mut Rng, lengths: &[usize]) -> Vec<u8> {
-    let mut dcf = (lengths.len() as u32).to_le_bytes().to_vec();
-    for length in lengths {
-        put_entry(rng, &mut dcf, *length);
-    }
-    dcf
-}
-
 /// A whole DCF of a few short entries.
 pub fn small_dcf(rng: &mut Rng) -> Vec<u8> {
     let lengths: Vec<_> = (0..rng.below(5))
@@ -136,15 +122,11 @@ pub fn any_dcf(rng: &mut Rng) -> Vec<u8> {
         }
         5 if entries > 0 => {
             let size = rng.pick(&[1 << 31, u32::MAX, u32::MAX - 7, 5_000]);
-            dcf[7..11].copy_from_slice(&size.to_le_bytes());
+            set_size(&mut dcf, COUNT_BYTES, size);
         }
         _ => {}
     }
     dcf
-}
-
-fn set_count(dcf: &mut [u8], count: u32) {
-    dcf[..COUNT_BYTES].copy_from_slice(&count.to_le_bytes());
 }
 
 fn short_bytes(rng: &mut Rng) -> Vec<u8> {

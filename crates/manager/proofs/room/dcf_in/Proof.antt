@@ -1,7 +1,7 @@
 -- `manager::room::dcf_in` meets its contract: the room is lent, and put back into the store.
 use mathlib.Core.Path.{_∙_}
 use Rattle.connection.specs.Start.{startDcf}
-use Rattle.manager.specs.Calls.{roomIn}
+use Rattle.man_table.specs.Table.{roomIn}
 use Rattle.manager.proofs.LentRoom.{dcf-stored, lent-room, room-back}
 use borrow.Author.Needs.{needs}
 use Rattle.manager.proofs.room.dcf_in.Statement.{statement}

@@ -1,7 +1,7 @@
 -- `manager::room::reply_in` meets its contract: the room is lent, and put back into the store.
 use mathlib.Core.Path.{_∙_}
 use Rattle.con_reply.specs.Reply.{replyOf}
-use Rattle.manager.specs.Calls.{roomIn}
+use Rattle.man_table.specs.Table.{roomIn}
 use Rattle.manager.proofs.LentRoom.{lent-room, reply-stored, room-back}
 use borrow.Author.Needs.{needs}
 use Rattle.manager.proofs.room.reply_in.Statement.{statement}

@@ -1,7 +1,7 @@
 -- `manager::room::write_in` meets its contract: the room is lent, and put back into the store.
 use mathlib.Core.Path.{_∙_}
 use Rattle.connection.specs.Start.{startWrite}
-use Rattle.manager.specs.Calls.{roomIn}
+use Rattle.man_table.specs.Table.{roomIn}
 use Rattle.manager.proofs.LentRoom.{lent-room, room-back, write-stored}
 use borrow.Author.Needs.{needs}
 use Rattle.manager.proofs.room.write_in.Statement.{statement}

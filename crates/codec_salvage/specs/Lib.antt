@@ -1,0 +1,3 @@
+pub mod Causes
+pub mod Repair
+pub mod Salvage

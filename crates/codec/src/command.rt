@@ -25,7 +25,7 @@ use crate::octets::{le16_at, le32_at, octets32, put_bytes};
 use crate::refusal::Refusal;
 use crate::sequence::Written;
 
-#[derive(Drop)]
+#[derive(Clone, Copy)]
 pub enum CommandId {
     Nil,
     WriteByIndex,
@@ -42,7 +42,7 @@ pub enum CommandId {
     MaxSegmentSize,
 }
 
-#[derive(Drop)]
+#[derive(Clone, Copy)]
 pub enum Segmentation {
     Expedited,
     Initiate,
@@ -50,7 +50,7 @@ pub enum Segmentation {
     Complete,
 }
 
-#[derive(Drop)]
+#[derive(Clone, Copy)]
 pub struct CommandLayerHeader {
     pub transaction_id: u8,
     pub is_response: bool,
@@ -60,35 +60,35 @@ pub struct CommandLayerHeader {
     pub segment_size: u16,
 }
 
-#[derive(Drop)]
+#[derive(Clone, Copy)]
 pub enum DataSize {
     Present(u32),
     Absent,
 }
 
 // A command but for its payload, which stands beside it.
-#[derive(Drop)]
+#[derive(Clone, Copy)]
 pub struct SdoCommand {
     pub header: CommandLayerHeader,
     pub data_size: DataSize,
 }
 
 // What a command number names.
-#[derive(Drop)]
+#[derive(Clone, Copy)]
 pub enum CommandDecoded {
     Known(CommandId),
     Unknown,
 }
 
 // What stands at a place of the listing.
-#[derive(Drop)]
+#[derive(Clone, Copy)]
 pub enum CommandListed {
     Number(u8),
     NoneSuch,
 }
 
 // What reading a command finds: the command, and the place and length of its payload in the bytes it was read from.
-#[derive(Drop)]
+#[derive(Clone, Copy)]
 pub enum CommandRead {
     Command {
         command: SdoCommand,

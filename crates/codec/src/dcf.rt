@@ -5,21 +5,21 @@ ghost use Rattle.codec.specs.Dcf.{dcf_count, dcf_step};
 use crate::octets::{le16_at, le32_at};
 use crate::refusal::Refusal;
 
-#[derive(Drop)]
+#[derive(Clone, Copy)]
 pub enum DcfCount {
     Count(u32),
     Refused(Refusal),
 }
 
 // Where the next entry begins, and how many are still counted. The first entry's cursor is at 4, with the count left.
-#[derive(Drop)]
+#[derive(Clone, Copy)]
 pub struct DcfCursor {
     pub at: usize,
     pub left: u32,
 }
 
 // What stands at a cursor: an entry, its data the len bytes from start on; none counted any more; or one that is not readable.
-#[derive(Drop)]
+#[derive(Clone, Copy)]
 pub enum DcfStep {
     Entry {
         index: u16,

@@ -13,20 +13,20 @@ ghost use Rattle.codec.specs.Request.{
 use crate::octets::{le16_at, le32_at};
 use crate::refusal::Refusal;
 
-#[derive(Drop)]
+#[derive(Clone, Copy)]
 pub struct ReadByIndexRequest {
     pub index: u16,
     pub sub_index: u8,
 }
 
-#[derive(Drop)]
+#[derive(Clone, Copy)]
 pub enum ReadByIndexRead {
     Request(ReadByIndexRequest),
     Refused(Refusal),
 }
 
 // The data are the len bytes of the payload from start on.
-#[derive(Drop)]
+#[derive(Clone, Copy)]
 pub struct WriteByIndexRequest {
     pub index: u16,
     pub sub_index: u8,
@@ -34,46 +34,46 @@ pub struct WriteByIndexRequest {
     pub len: usize,
 }
 
-#[derive(Drop)]
+#[derive(Clone, Copy)]
 pub enum WriteByIndexRead {
     Request(WriteByIndexRequest),
     Refused(Refusal),
 }
 
 // The data are the len bytes of the payload from start on.
-#[derive(Drop)]
+#[derive(Clone, Copy)]
 pub struct WriteAllByIndexRequest {
     pub index: u16,
     pub start: usize,
     pub len: usize,
 }
 
-#[derive(Drop)]
+#[derive(Clone, Copy)]
 pub enum WriteAllByIndexRead {
     Request(WriteAllByIndexRequest),
     Refused(Refusal),
 }
 
-#[derive(Drop)]
+#[derive(Clone, Copy)]
 pub enum ReadMultipleParamRead {
     Entries(usize),
     Refused(Refusal),
 }
 
-#[derive(Drop)]
+#[derive(Clone, Copy)]
 pub struct MultipleParamEntry {
     pub index: u16,
     pub sub_index: u8,
 }
 
-#[derive(Drop)]
+#[derive(Clone, Copy)]
 pub enum MultipleParamFound {
     Entry(MultipleParamEntry),
     NoneSuch,
 }
 
 // The code of an abort, or none where its payload has under four bytes.
-#[derive(Drop)]
+#[derive(Clone, Copy)]
 pub enum AbortCode {
     Code(u32),
     NoCode,

@@ -13,7 +13,7 @@ ghost use Rattle.codec.specs.Writing.{written, buffer_after};
 
 use crate::refusal::Refusal;
 
-#[derive(Drop)]
+#[derive(Clone, Copy)]
 pub enum ReceiveConnState {
     NoConnection,
     Initialization,
@@ -21,7 +21,7 @@ pub enum ReceiveConnState {
     ErrorResponse,
 }
 
-#[derive(Drop)]
+#[derive(Clone, Copy)]
 pub enum SendConnState {
     NoConnection,
     Initialization,
@@ -29,7 +29,7 @@ pub enum SendConnState {
     ConnectionValidAckRequest,
 }
 
-#[derive(Drop)]
+#[derive(Clone, Copy)]
 pub struct SequenceLayerHeader {
     pub receive_sequence_number: u8,
     pub receive_con: ReceiveConnState,
@@ -38,14 +38,14 @@ pub struct SequenceLayerHeader {
 }
 
 // What reading a header finds.
-#[derive(Drop)]
+#[derive(Clone, Copy)]
 pub enum SequenceRead {
     Header(SequenceLayerHeader),
     Refused(Refusal),
 }
 
 // What writing to a buffer comes to: how many bytes were written, or why none was.
-#[derive(Drop)]
+#[derive(Clone, Copy)]
 pub enum Written {
     Bytes(usize),
     Refused(Refusal),

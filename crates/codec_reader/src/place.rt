@@ -5,7 +5,7 @@ ghost use Rattle.codec_reader.specs.Place.{first_place, past as past_of, stepped
 use codec::dcf::{DcfCount, DcfCursor, DcfStep, dcf_count, dcf_step};
 
 // What a step found, and the place after it: past an entry, and else where it was.
-#[derive(Drop)]
+#[derive(Clone, Copy)]
 pub struct Stepped {
     pub found: DcfStep,
     pub at: usize,

@@ -1,4 +1,5 @@
 // The repair of a concise DCF that lost its tail (document 02, CR 3): its readable entries, where they are, their number as the count, and nothing after.
+#![tactic(auto)]
 ghost use Rattle.std.specs.Prelude.{◌≡◌, ◌≤◌, length};
 ghost use Rattle.codec.specs.Dcf.{count_of, readable_entries};
 ghost use Rattle.codec.specs.Writing.{buffer_after};
@@ -13,14 +14,14 @@ use codec_reader::entry_of;
 pub const MOST_SALVAGED: usize = 4096;
 
 // The offset of the first byte that is dropped.
-#[derive(Drop)]
+#[derive(Clone, Copy)]
 pub enum FirstDropped {
     At(usize),
     NoneDropped,
 }
 
 // What a repair made: how many entries the old DCF counted and the new one has, the length of the new one, and what is dropped of the old one.
-#[derive(Drop)]
+#[derive(Clone, Copy)]
 pub struct Salvaged {
     pub old_count: u32,
     pub new_count: u32,
@@ -29,7 +30,7 @@ pub struct Salvaged {
     pub first_dropped: FirstDropped,
 }
 
-#[derive(Drop)]
+#[derive(Clone, Copy)]
 pub enum SalvageAnswer {
     Salvaged(Salvaged),
     Refused(Refusal),

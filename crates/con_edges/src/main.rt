@@ -1,5 +1,6 @@
 // Document 01's own run and its edges, and the parts of both modes (document 02, CR 2), through the connection's calls. What this program
 // writes is held to the file stdout, whose lines are the papers' numbers.
+#![tactic(auto)]
 use codec::command::{CommandId, CommandLayerHeader, DataSize, SdoCommand, Segmentation};
 use codec::octets::part;
 use codec::refusal::refusal_number;

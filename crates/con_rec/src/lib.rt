@@ -1,6 +1,7 @@
 // One node's connection as a record, and the commands that it sends (document 01, "The connection" and "Bytes"): the parts that a transfer
 // is sent in, deadlines, headers and payloads. What the calls make of a record is in the crates connection and con_reply. The names are those of the
 // repository's client_connection.rs where it has them. The types stand here, at the root, since every check writes their names out.
+#![tactic(auto)]
 ghost use Rattle.std.specs.Prelude.{◌≡◌};
 ghost use Rattle.con_rec.specs.Record.{new_connection, end_of};
 
@@ -14,7 +15,7 @@ pub mod numbers;
 pub mod parts;
 pub mod payload;
 
-#[derive(Drop)]
+#[derive(Clone, Copy)]
 pub enum SdoClientConnectionState {
     Idle,
     Opening,
@@ -26,28 +27,28 @@ pub enum SdoClientConnectionState {
 }
 
 // A parameter of 32 bits, present or absent.
-#[derive(Drop)]
+#[derive(Clone, Copy)]
 pub enum Parameter {
     Present(u32),
     Absent,
 }
 
 // What a call is told: the time in microseconds, and the two parameters.
-#[derive(Drop)]
+#[derive(Clone, Copy)]
 pub struct Now {
     pub time: u64,
     pub timeout: Parameter,
     pub retries: Parameter,
 }
 
-#[derive(Drop)]
+#[derive(Clone, Copy)]
 pub enum Deadline {
     At(u64),
     Never,
 }
 
 // A deadline to be set, where it fits.
-#[derive(Drop)]
+#[derive(Clone, Copy)]
 pub enum Moment {
     At(u64),
     OutOfRange,
@@ -55,14 +56,14 @@ pub enum Moment {
 
 // Which rules a job follows where document 02 changes those of document 01: the repository's, or the published ones (CR 2). A start chooses it, and
 // the rules ask a function of it, such as `limit`.
-#[derive(Drop)]
+#[derive(Clone, Copy)]
 pub enum Mode {
     Repository,
     Published,
 }
 
 // The read command of a job that reads.
-#[derive(Drop)]
+#[derive(Clone, Copy)]
 pub enum PendingRead {
     Read { index: u16, sub_index: u8 },
     NoRead,
@@ -70,7 +71,7 @@ pub enum PendingRead {
 
 // A transfer is a place: it is sent as index, sub-index, 0 and its data, the len bytes of the job from start on. The long fields stand
 // first, here and in the connection: fields lie as they are written, and a connection is copied often.
-#[derive(Drop)]
+#[derive(Clone, Copy)]
 pub struct Transfer {
     pub start: usize,
     pub len: u32,
@@ -78,14 +79,14 @@ pub struct Transfer {
     pub sub_index: u8,
 }
 
-#[derive(Drop)]
+#[derive(Clone, Copy)]
 pub enum LoadedTransfer {
     Loaded(Transfer),
     Unloaded,
 }
 
 // Which command goes out, with its place: a read's object, a part's transfer and the bytes of it that went before, an abort's code.
-#[derive(Drop)]
+#[derive(Clone, Copy)]
 pub enum Message {
     Opening,
     Read { index: u16, sub_index: u8 },
@@ -96,7 +97,7 @@ pub enum Message {
 }
 
 // A command that goes out: the numbers of its headers, the mode of its job, and which command it is.
-#[derive(Drop)]
+#[derive(Clone, Copy)]
 pub struct Outgoing {
     pub receive: u8,
     pub send: u8,
@@ -106,14 +107,14 @@ pub struct Outgoing {
 }
 
 // The command outstanding, kept for repeats.
-#[derive(Drop)]
+#[derive(Clone, Copy)]
 pub enum Outstanding {
     Waits(Outgoing),
     Nothing,
 }
 
 // Why a job ended.
-#[derive(Drop)]
+#[derive(Clone, Copy)]
 pub enum Reason {
     Complete,
     Cut,
@@ -124,7 +125,7 @@ pub enum Reason {
     BadSegment,
 }
 
-#[derive(Drop)]
+#[derive(Clone, Copy)]
 pub enum Outcome {
     Running,
     Ended(Reason),
@@ -133,7 +134,7 @@ pub enum Outcome {
 // The job: how many bytes of the room are its own, where its next entry begins and how many are still counted, the transfer that is
 // loaded and how many bytes of it were sent, the read command, how many bytes an upload has brought, the transfers delivered, and the
 // mode that its start chose.
-#[derive(Drop)]
+#[derive(Clone, Copy)]
 pub struct SdoJob {
     pub size: usize,
     pub cursor: DcfCursor,
@@ -146,7 +147,7 @@ pub struct SdoJob {
 }
 
 // What is waited for: a reply to the command outstanding, until the deadline, and so many repeats.
-#[derive(Drop)]
+#[derive(Clone, Copy)]
 pub struct Waiting {
     pub last_sent_command: Outstanding,
     pub deadline: Deadline,
@@ -154,7 +155,7 @@ pub struct Waiting {
 }
 
 // One node's connection. `room` is where its room starts in the store; only the manager looks at it.
-#[derive(Drop)]
+#[derive(Clone, Copy)]
 pub struct SdoClientConnection {
     pub room: usize,
     pub target_node_id: u8,
@@ -168,41 +169,41 @@ pub struct SdoClientConnection {
 }
 
 // What ask or tick gives.
-#[derive(Drop)]
+#[derive(Clone, Copy)]
 pub enum Sends {
     Gives(Outgoing),
     Silent,
 }
 
-#[derive(Drop)]
+#[derive(Clone, Copy)]
 pub struct Step {
     pub connection: SdoClientConnection,
     pub sends: Sends,
 }
 
 // The answer of ask and tick.
-#[derive(Drop)]
+#[derive(Clone, Copy)]
 pub enum Stepped {
     Went(Step),
     Refused(Refusal),
 }
 
 // The answer of a start and of a reply.
-#[derive(Drop)]
+#[derive(Clone, Copy)]
 pub enum Taken {
     Connection(SdoClientConnection),
     Refused(Refusal),
 }
 
 // An end, as it is reported.
-#[derive(Drop)]
+#[derive(Clone, Copy)]
 pub struct End {
     pub node: u8,
     pub reason: Reason,
     pub delivered: u32,
 }
 
-#[derive(Drop)]
+#[derive(Clone, Copy)]
 pub enum EndFound {
     End(End),
     Running,

@@ -20,7 +20,7 @@ use connection::ask::ended;
 
 // What a reply comes to: the connection after it, the room as it is; the same, with the payload put into the room from a place on; or no
 // room for it.
-#[derive(Drop)]
+#[derive(Clone, Copy)]
 pub enum Decision {
     Keeps(SdoClientConnection),
     Stores(SdoClientConnection, usize),
@@ -28,7 +28,7 @@ pub enum Decision {
 }
 
 // Where an upload ends in the room with so many bytes more, if they fit.
-#[derive(Drop)]
+#[derive(Clone, Copy)]
 pub enum RoomFor {
     Upto(usize),
     NoRoom,

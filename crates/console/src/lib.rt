@@ -1,4 +1,5 @@
 // What the programs write to standard output: text, numbers, bytes in hex, frames. No contract can say what is written.
+#![tactic(auto)]
 use codec::command::SdoCommand;
 use codec::octets::part;
 use codec::sequence::{SequenceLayerHeader, Written};

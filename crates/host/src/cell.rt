@@ -10,7 +10,7 @@ use codec::sequence::{ReceiveConnState, SendConnState, SequenceLayerHeader};
 use manager::types::SentTo;
 
 // An object: how many bytes it was given, and the first four of them as a number, low byte first.
-#[derive(Drop)]
+#[derive(Clone, Copy)]
 pub(crate) struct Object {
     pub index: u16,
     pub sub_index: u8,
@@ -18,7 +18,7 @@ pub(crate) struct Object {
     pub value: u32,
 }
 
-#[derive(Drop)]
+#[derive(Clone, Copy)]
 pub(crate) struct Cell {
     pub first: Object,
     pub second: Object,
@@ -26,7 +26,7 @@ pub(crate) struct Cell {
 
 // What the cell answers: its table after the command, the headers of the reply, and its data, of which the reply carries as many bytes as its
 // segment size says.
-#[derive(Drop)]
+#[derive(Clone, Copy)]
 pub(crate) struct Reply {
     pub cell: Cell,
     pub sequence: SequenceLayerHeader,
@@ -35,7 +35,7 @@ pub(crate) struct Reply {
 }
 
 // The data that a reply carries: how many of the four bytes, and whether they are the code of an abort.
-#[derive(Drop)]
+#[derive(Clone, Copy)]
 struct Carried {
     data: FourOctets,
     bytes: u16,

@@ -6,6 +6,7 @@
 // (0x80, 0x40, x 16). A node that follows EPSG DS 301 aborts with flags C0; the client reads these as Complete without the abort mark, so that
 // a write which the node refused ends Complete, in published mode too. docs/DIFFERENCES.md says what a host at such a node has to do. The cell here has the
 // repository's bits.
+#![tactic(auto)]
 use codec::octets::part;
 use con_rec::{Deadline, Mode, Now, Parameter};
 use man_lent::types::Kept;
@@ -21,7 +22,7 @@ mod print;
 
 // What is there between two turns, beside the store: the host's manager, the cell at the other end of the wire, and the answer to the reply of the
 // last turn, Nothing where none came.
-#[derive(Drop)]
+#[derive(Clone, Copy)]
 struct Host {
     manager: SdoClientManager,
     cell: cell::Cell,

@@ -14,7 +14,7 @@ pub const ROOM_SIZE: usize = 4096;
 pub const LAST_ROOM: usize = 28672;
 
 // The first `count` connections are held, ascending by node; the rest are blank.
-#[derive(Drop)]
+#[derive(Clone, Copy)]
 pub struct SdoClientManager {
     pub connections: [SdoClientConnection; 8],
     pub count: usize,
@@ -22,21 +22,21 @@ pub struct SdoClientManager {
 }
 
 // The ends that a call reports: the first `count`, ascending by node.
-#[derive(Drop)]
+#[derive(Clone, Copy)]
 pub struct Ends {
     pub list: [End; 8],
     pub count: usize,
 }
 
 // Where a node's connection is in the table.
-#[derive(Drop)]
+#[derive(Clone, Copy)]
 pub enum Found {
     At(usize),
     Absent,
 }
 
 // A connection and where it stands in the table: at a place of those held, or in a new place by its node; or none.
-#[derive(Drop)]
+#[derive(Clone, Copy)]
 pub enum Entry {
     Nowhere,
     At(usize, SdoClientConnection),
@@ -44,21 +44,21 @@ pub enum Entry {
 }
 
 // Which call walks the table.
-#[derive(Drop)]
+#[derive(Clone, Copy)]
 pub enum Turn {
     Asking,
     Ticking,
 }
 
 // How a walk was left: at the first connection that gives a command, with the command; at the end; or refused.
-#[derive(Drop)]
+#[derive(Clone, Copy)]
 pub enum Walked {
     Stopped(usize, Outgoing),
     Through,
     Refused(Refusal),
 }
 
-#[derive(Drop)]
+#[derive(Clone, Copy)]
 pub struct Walk {
     pub manager: SdoClientManager,
     pub walked: Walked,

@@ -10,7 +10,7 @@ use man_value::StorePart;
 pub const OUTPUT_SIZE: usize = 1452;
 
 // A command that goes out: its payload is at the start of the output, as long as the segment size says.
-#[derive(Drop)]
+#[derive(Clone, Copy)]
 pub struct SentTo {
     pub node: u8,
     pub sequence: SequenceLayerHeader,
@@ -18,7 +18,7 @@ pub struct SentTo {
 }
 
 // What a call answers: nothing; a command that goes out; the part of the store with what a read brought, where a reply ended it Complete; or a refusal.
-#[derive(Drop)]
+#[derive(Clone, Copy)]
 pub enum Answer {
     Nothing,
     Sent(SentTo),
@@ -27,7 +27,7 @@ pub enum Answer {
 }
 
 // What a call comes to: the manager after it, its answer, and the ends.
-#[derive(Drop)]
+#[derive(Clone, Copy)]
 pub struct Done {
     pub manager: SdoClientManager,
     pub answer: Answer,
@@ -36,7 +36,7 @@ pub struct Done {
 
 // What a call changes, where it changes one connection at most: so the manager need not be copied. A start takes the next transaction number;
 // a tick, an ask and a reply remove the connections that have ended.
-#[derive(Drop)]
+#[derive(Clone, Copy)]
 pub struct Change {
     pub entry: Entry,
     pub numbers: bool,
@@ -45,7 +45,7 @@ pub struct Change {
 }
 
 // How a call is carried out: by a change; or by the walk of a tick or an ask, where several connections may change.
-#[derive(Drop)]
+#[derive(Clone, Copy)]
 pub enum Plan {
     Change(Change),
     Walk(Turn, Now),

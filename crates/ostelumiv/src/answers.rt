@@ -6,14 +6,14 @@ use codec::refusal::{Refusal, refusal_number};
 use codec::sequence::Written;
 
 #[repr(C)]
-#[derive(Drop)]
+#[derive(Clone, Copy)]
 pub struct WrittenFields {
     pub refusal: u8,
     pub bytes: usize,
 }
 
 #[repr(C)]
-#[derive(Drop)]
+#[derive(Clone, Copy)]
 pub struct CountFields {
     pub refusal: u8,
     pub count: usize,

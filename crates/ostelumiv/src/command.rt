@@ -23,7 +23,7 @@ use codec::refusal::{Refusal, refusal_number};
 use codec::sequence::Written;
 
 #[repr(C)]
-#[derive(Drop)]
+#[derive(Clone, Copy)]
 pub struct CommandFields {
     pub refusal: u8,
     pub transaction_id: u8,
@@ -40,14 +40,14 @@ pub struct CommandFields {
 
 // A place of the listing: 1 and its number, or 0 and 0.
 #[repr(C)]
-#[derive(Drop)]
+#[derive(Clone, Copy)]
 pub struct ListedFields {
     pub listed: u8,
     pub number: u8,
 }
 
 // What the numbers of a command name.
-#[derive(Drop)]
+#[derive(Clone, Copy)]
 enum CommandNamed {
     Command(SdoCommand),
     Refused(Refusal),

@@ -7,7 +7,7 @@ use crate::answers::{CountFields, count_refused};
 use codec::dcf::{DcfCount, DcfCursor, DcfStep, dcf_count, dcf_step};
 
 #[repr(C)]
-#[derive(Drop)]
+#[derive(Clone, Copy)]
 pub struct StepFields {
     pub kind: u8,
     pub sub_index: u8,

@@ -25,7 +25,7 @@ use codec::request::{
 };
 
 #[repr(C)]
-#[derive(Drop)]
+#[derive(Clone, Copy)]
 pub struct IndexFields {
     pub refusal: u8,
     pub sub_index: u8,
@@ -35,7 +35,7 @@ pub struct IndexFields {
 }
 
 #[repr(C)]
-#[derive(Drop)]
+#[derive(Clone, Copy)]
 pub struct EntryFields {
     pub found: u8,
     pub sub_index: u8,

@@ -11,7 +11,7 @@ use codec::sequence::{
 };
 
 #[repr(C)]
-#[derive(Drop)]
+#[derive(Clone, Copy)]
 pub struct SequenceFields {
     pub refusal: u8,
     pub receive_sequence_number: u8,

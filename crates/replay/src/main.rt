@@ -1,4 +1,5 @@
 // The replay. Its stdin and stdout beside src/ are document 01's run.
+#![tactic(auto)]
 use libc::STDERR_FILENO;
 
 fn main() {

@@ -4,27 +4,27 @@ use man_value::StorePart;
 use replay_record::plan::Choices;
 
 // What is written of a record: the replay's line; or the line of its value, where it ended a read Complete.
-#[derive(Drop)]
+#[derive(Clone, Copy)]
 pub enum Shows {
     Lines,
     Values,
 }
 
-#[derive(Drop)]
+#[derive(Clone, Copy)]
 pub struct Settings {
     pub shows: Shows,
     pub choices: Choices,
 }
 
 // The last value that a record was answered: the record's number, 0 where none was, and the part of the store.
-#[derive(Drop)]
+#[derive(Clone, Copy)]
 pub struct LastValue {
     pub record: u16,
     pub at: StorePart,
 }
 
 // The bytes gathered; the number of the last record, the bytes read of the piece, the text so far; and the last value.
-#[derive(Drop)]
+#[derive(Clone, Copy)]
 pub struct Progress {
     pub gathered: usize,
     pub number: u16,
@@ -33,7 +33,7 @@ pub struct Progress {
     pub value: LastValue,
 }
 
-#[derive(Drop)]
+#[derive(Clone, Copy)]
 pub struct Run {
     pub manager: SdoClientManager,
     pub progress: Progress,

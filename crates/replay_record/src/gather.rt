@@ -13,7 +13,7 @@ pub const MOST_GATHERED: usize = 4096;
 pub const GATHER_SIZE: usize = 4112;
 
 // What a gather came to: its answer, and how many bytes are gathered after it.
-#[derive(Drop)]
+#[derive(Clone, Copy)]
 pub struct Gathered {
     pub answer: Answer,
     pub gathered: usize,

@@ -22,7 +22,7 @@ use manager::plan::plan_turn;
 use manager::types::{Answer, Plan};
 
 // What is chosen for all records of a run: the mode of each start, timeout and retries.
-#[derive(Drop)]
+#[derive(Clone, Copy)]
 pub struct Choices {
     pub mode: Mode,
     pub timeout: Parameter,
@@ -30,7 +30,7 @@ pub struct Choices {
 }
 
 // A record's plan, and how many bytes are gathered after it.
-#[derive(Drop)]
+#[derive(Clone, Copy)]
 pub struct RecordPlan {
     pub plan: Plan,
     pub gathered: usize,

@@ -12,14 +12,14 @@ pub const RECORD_SIZE: usize = 32;
 pub const MOST_DATA: u8 = 16;
 
 // Operations 1, 3 and 4: they use what was gathered plus their own data.
-#[derive(Drop)]
+#[derive(Clone, Copy)]
 pub enum Use {
     Write,
     Dcf,
     Reply,
 }
 
-#[derive(Drop)]
+#[derive(Clone, Copy)]
 pub enum Operation {
     Uses(Use),
     Read,
@@ -27,14 +27,14 @@ pub enum Operation {
     Gather,
 }
 
-#[derive(Drop)]
+#[derive(Clone, Copy)]
 pub enum OperationRead {
     Known(Operation),
     Unknown,
 }
 
 // In a reply, index is the sequence octets 0 and 1. The data are the length bytes from the 16th on.
-#[derive(Drop)]
+#[derive(Clone, Copy)]
 pub struct Record {
     pub operation: Operation,
     pub node: u8,
@@ -45,7 +45,7 @@ pub struct Record {
     pub flags: u8,
 }
 
-#[derive(Drop)]
+#[derive(Clone, Copy)]
 pub enum RecordRead {
     Record(Record),
     Refused(Refusal),

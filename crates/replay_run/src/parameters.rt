@@ -8,20 +8,20 @@ use libc::STDIN_FILENO;
 use replay_piece::types::{Settings, Shows};
 use replay_record::plan::Choices;
 
-#[derive(Drop)]
+#[derive(Clone, Copy)]
 pub struct Parameters {
     pub settings: Settings,
     pub states: bool,
 }
 
 // What the head of a comparison's input says.
-#[derive(Drop)]
+#[derive(Clone, Copy)]
 pub(crate) enum ParametersRead {
     Parameters(Parameters),
     UnknownModes,
 }
 
-#[derive(Drop)]
+#[derive(Clone, Copy)]
 enum ModesRead {
     Mode(Mode),
     Unknown,

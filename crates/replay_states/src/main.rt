@@ -1,4 +1,5 @@
 // The replay with parameters and states, on the repository's answers with timeout 3 and retries 0 (docs/TRACES.md).
+#![tactic(auto)]
 fn main() {
     replay_run::replay::replay_states();
 }

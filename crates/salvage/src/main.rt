@@ -1,5 +1,6 @@
 // Salvage: a DCF on standard input, the repaired one on standard output, what came of it on standard error. Its stdin and stdout beside src/ are the
 // DCF of traces/cut-dcf.txt, which lost its last byte, and what is left of it.
+#![tactic(auto)]
 use libc::STDERR_FILENO;
 
 fn main() {

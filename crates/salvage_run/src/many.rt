@@ -5,7 +5,7 @@ use codec::octets::{joined16, part};
 use codec_salvage::{MOST_SALVAGED, SalvageAnswer, Salvaged, salvage};
 use libc::{STDIN_FILENO, STDOUT_FILENO};
 
-#[derive(Drop)]
+#[derive(Clone, Copy)]
 enum NextDcf {
     Length(usize),
     NoMore,

@@ -8,7 +8,7 @@ use libc::{STDERR_FILENO, STDIN_FILENO, STDOUT_FILENO};
 const INPUT_SIZE: usize = 4097;
 
 // How many bytes were read, or that a read failed. A DCF of which only a part was read looks like one that lost its tail, so it is not repaired.
-#[derive(Drop)]
+#[derive(Clone, Copy)]
 enum Input {
     Bytes(usize),
     Failed,

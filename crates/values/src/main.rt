@@ -1,4 +1,5 @@
 // Values: a line for each read of a trace that ends Complete. Its stdin and stdout beside src/ are a sample of the repository's answers.
+#![tactic(auto)]
 use libc::STDERR_FILENO;
 
 fn main() {

@@ -1,21 +1,18 @@
--- A step that left no entry, by the number of its case: what holds of End and of Unreadable holds of it, and where it is not Unreadable
--- either it is End.
+-- A step that is no entry: what holds of the other two cases holds of it, and where it is readable it is the end.
+use Prim.Native.Nat.{ℕ}
 use mathlib.Core.Path.{◌≡◌, refl}
-use mathlib.Core.List.{[], ◌∷◌}
-use mathlib.Core.Logic.{⊎_elim}
-use native.Mathlib.Omega.{arith}
-use denote.Enum.Declared.{tag_of}
-use types.Run.{OneOf}
+use Rattle.codec.specs.declared.dcf.DcfCursor.{DcfCursor}
 use Rattle.codec.specs.declared.dcf.DcfStep.{DcfStep}
-use Rattle.codec.specs.contracts.dcf.DcfStep.{the_type}
 
-pub no_entry_lem : (P : DcfStep → Type 0) (d : DcfStep) → OneOf (1 ∷ 2 ∷ []) (tag_of the_type d)
-    → P DcfStep.End → P DcfStep.Unreadable → P d
-no_entry_lem P (DcfStep.Entry index sub start len next) h p q = absurd (⊎_elim (λ e. omega arith) (λ e. omega arith) h)
-no_entry_lem P DcfStep.End h p q = p
-no_entry_lem P DcfStep.Unreadable h p q = q
+abbrev pub NoEntry : DcfStep → Type 0
+NoEntry d = (index sub start len : ℕ) (next : DcfCursor) → d ≡ DcfStep.Entry index sub start len next → ⊥
 
-pub at_end : (d : DcfStep) → OneOf (1 ∷ 2 ∷ []) (tag_of the_type d) → OneOf (0 ∷ 1 ∷ []) (tag_of the_type d) → d ≡ DcfStep.End
-at_end (DcfStep.Entry index sub start len next) h k = absurd (⊎_elim (λ e. omega arith) (λ e. omega arith) h)
-at_end DcfStep.End h k = refl
-at_end DcfStep.Unreadable h k = absurd (⊎_elim (λ e. omega arith) (λ e. omega arith) k)
+pub unless_entry : (P : DcfStep → Type 0) (d : DcfStep) → NoEntry d → P DcfStep.End → P DcfStep.Unreadable → P d
+unless_entry P (DcfStep.Entry index sub start len next) never p q = absurd (never index sub start len next refl)
+unless_entry P DcfStep.End never p q = p
+unless_entry P DcfStep.Unreadable never p q = q
+
+pub only_end : (d : DcfStep) → NoEntry d → (d ≡ DcfStep.Unreadable → ⊥) → d ≡ DcfStep.End
+only_end (DcfStep.Entry index sub start len next) never readable = absurd (never index sub start len next refl)
+only_end DcfStep.End never readable = refl
+only_end DcfStep.Unreadable never readable = absurd (readable refl)

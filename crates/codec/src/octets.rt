@@ -60,8 +60,9 @@ pub(crate) fn put_bytes(buffer: &mut [u8], at: usize, src: &[u8])
     requires { at + length src.now ≤ length buffer.old }
     ensures { buffer.new ≡ placed buffer.old at src.now }
 {
-    let end = at + src.len();
-    buffer[at..end].copy_from_slice(src);
+    for (i, b) in src.iter().enumerate() {
+        buffer[at + i] = *b;
+    }
 }
 
 // Puts the bytes of src into the buffer from a place on, and leaves the rest as it was; 1, and nothing is put, where they go past it.

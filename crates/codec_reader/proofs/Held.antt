@@ -5,8 +5,8 @@ use Prim.Native.Nat.{ℕ, ◌<◌, ◌^◌}
 use mathlib.Core.List.{List, [], ◌∷◌}
 use lib.ListN.{length}
 use seplogic.Ra.Ura.{Ura}
-use seplogic.Ra.TreeShare.{full_share}
-use mir.Syntax.{named, erased, w32, w64}
+use base.Fraction.{full_share}
+use mir.Syntax.{named, erased, w8, w32, w64}
 use mir.Val.{Val}
 use base.Logic.{ent, sep}
 use base.Fml.{Lft, Share, Fml, ftrue, fsep, fat, flft}
@@ -15,7 +15,7 @@ use types.Kit.{Item, ‵, ◌⊛◌, given, ◌$◌, ◌∵◌, !, qed, by, move
 use denote.Builtin.{u8, u32, usize}
 use denote.Laws.{Is, shows}
 use denote.Memory.{cell_at, part_at, part_of}
-use denote.Plain.{uint_Makes}
+use denote.Plain.{uint_Makes, uint_row_laws}
 use denote.Ref.{Bor, NamedLft}
 use denote.Slice.{slice_val, ShrSlice, shr_slice_copy}
 use denote.Steps.{owned, nothing}
@@ -49,7 +49,7 @@ made s c = record { dcf = s; at = c.at; left = c.left }
 
 module _ {M : Type 1} {𝓤 : Ura M} (𝓛 : Logic 𝓤) (κ : Lft) (s : Bor (List ℕ)) where
   pub twice : ent 𝓤 (sem 𝓛 (OfDcf κ s)) (sep 𝓤 (sem 𝓛 (OfDcf κ s)) (sem 𝓛 (OfDcf κ s)))
-  twice = (shr_slice_copy 𝓛 (named 0) κ u8).twice s (slice s ∷ [])
+  twice = (shr_slice_copy 𝓛 (named 0) κ u8 (uint_row_laws w8)).twice s (slice s ∷ [])
 
 module _ {M : Type 1} {𝓤 : Ura M} (𝓛 : Logic 𝓤) (α : NamedLft) (d : DcfReader) where
   open 𝓛 use {H}

@@ -1,29 +1,12 @@
--- Places by the answers of callees: the first by the count, a step with the place after it, and steps one after another. There an entry
--- leaves the rest of them from behind it on, and where none is found the rest change nothing.
+-- Steps one after another: an entry leaves the rest of them from behind it on, and where none is found the rest change nothing.
 use Prim.Native.Nat.{ℕ, zero, suc, ◌-◌, ◌<◌, ◌≤◌}
 use native.Mathlib.Omega.{arith}
 use mathlib.Core.Path.{◌≡◌, refl, sym, ap, ◌∙◌}
 use Rattle.codec.specs.Bytes.{Bytes}
-use Rattle.codec.specs.Dcf.{dcf_count, dcf_step}
-use Rattle.codec.specs.declared.dcf.DcfCount.{DcfCount}
+use Rattle.codec.specs.Dcf.{dcf_step}
 use Rattle.codec.specs.declared.dcf.DcfCursor.{DcfCursor}
-use Rattle.codec.specs.declared.dcf.DcfStep.{DcfStep}
-use Rattle.codec_reader.specs.Place.{counted, entry_of, first_place, past, stepped_by, stepped_from, place_after, place_of}
+use Rattle.codec_reader.specs.Place.{entry_of, first_place, past, stepped_from, place_after, place_of}
 use Rattle.codec_reader.specs.declared.place.Stepped.{Stepped}
-
-abbrev counting : ℕ → DcfCursor
-counting n = record { at = 4; left = n }
-
-module _ (b : Bytes) {answer found : DcfCount} (e : answer ≡ dcf_count b) (g : answer ≡ found) where
-  pub first_place_lem : {n : ℕ} → n ≡ counted found → record { at = 4; left = n } ≡ first_place b
-  first_place_lem h = ap counting (h ∙ ap counted (sym g ∙ e))
-
-abbrev placed : DcfStep → DcfCursor → Stepped
-placed found p = record { found = found; at = p.at; left = p.left }
-
-pub step_and_place : (b : Bytes) (c : DcfCursor) {found : DcfStep} {next : DcfCursor}
-    → found ≡ dcf_step b c → next ≡ past c found → placed found next ≡ stepped_from b c
-step_and_place b c e g = ap (placed _) g ∙ ap (stepped_by c) e
 
 -- a step from a place, with m more to go from there to the n-th entry's
 pub record Reading (b : Bytes) (n : ℕ) (step : Stepped) (m : ℕ) : Type 0 where

@@ -1,6 +1,7 @@
 // A reader of a concise DCF (document 01, "Bytes"): a struct that holds the lent DCF and the place in it. Whoever calls `entry_at` or `entry_of`,
-// which take a plain slice and numbers, needs no struct that holds a reference, and none of the proofs that go with one.
+// which take a plain slice and numbers, needs no struct that holds a reference.
 #![tactic(auto)]
+
 ghost use Rattle.std.specs.Prelude.{◌≡◌};
 ghost use Rattle.codec_reader.specs.Place.{entry_of, stepped_from};
 ghost use Rattle.codec_reader.specs.Reader.{reader_of, found_by, moved_on};

@@ -1,5 +1,6 @@
 // The repair of a concise DCF that lost its tail (document 02, CR 3): its readable entries, where they are, their number as the count, and nothing after.
 #![tactic(auto)]
+
 ghost use Rattle.std.specs.Prelude.{◌≡◌, ◌≤◌, length};
 ghost use Rattle.codec.specs.Dcf.{count_of, readable_entries};
 ghost use Rattle.codec.specs.Writing.{buffer_after};

@@ -1,6 +1,7 @@
 // Document 01's own run and its edges, and the parts of both modes (document 02, CR 2), through the connection's calls. What this program
 // writes is held to the file stdout, whose lines are the papers' numbers.
 #![tactic(auto)]
+
 use codec::command::{CommandId, CommandLayerHeader, DataSize, SdoCommand, Segmentation};
 use codec::octets::part;
 use codec::refusal::refusal_number;
@@ -14,83 +15,95 @@ use connection::ask::get_pending_request;
 use connection::start::{start_concise_dcf_job, start_read_job, start_write_job};
 use connection::tick::tick;
 use console::{number, small, text};
+use std::io;
 
 mod totals;
 
 // The bytes of a command that goes out: sequence header, command.
-fn frame(o: Outgoing, room: &[u8]) {
+fn frame(rt: &impl Print, o: Outgoing, room: &[u8]) -> io::Result<()> {
     let mut payload = [0u8; 1452];
     let Written::Bytes(n) = write_payload(o, room, &mut payload) else {
-        return;
+        return Ok(());
     };
-    console::frame(o.sequence(), o.command(), part(&payload, 0, n));
+    console::frame(rt, o.sequence(), o.command(), part(&payload, 0, n))
 }
 
 // What ask or tick gave, on a line: the frame, `-` for nothing, or the refusal's number.
-fn show(what: &[u8], s: Stepped, c: SdoClientConnection, room: &[u8]) -> SdoClientConnection {
-    text(what);
+fn show(
+    rt: &impl Print,
+    what: &[u8],
+    s: Stepped,
+    c: SdoClientConnection,
+    room: &[u8],
+) -> io::Result<SdoClientConnection> {
+    text(rt, what)?;
     match s {
         Stepped::Went(step) => {
             let sends = step.sends;
             let after = step.connection;
             match sends {
-                Sends::Gives(o) => frame(o, room),
-                Sends::Silent => text(b"-"),
+                Sends::Gives(o) => frame(rt, o, room)?,
+                Sends::Silent => text(rt, b"-")?,
             }
-            text(b"\n");
-            after
+            text(rt, b"\n")?;
+            Ok(after)
         }
         Stepped::Refused(r) => {
-            small(refusal_number(r));
-            text(b"\n");
-            c
+            small(rt, refusal_number(r))?;
+            text(rt, b"\n")?;
+            Ok(c)
         }
     }
 }
 
 // What a start or a reply came to: 0 or the refusal's number.
-fn came(what: &[u8], a: Taken, c: SdoClientConnection) -> SdoClientConnection {
-    text(what);
+fn came(
+    rt: &impl Print,
+    what: &[u8],
+    a: Taken,
+    c: SdoClientConnection,
+) -> io::Result<SdoClientConnection> {
+    text(rt, what)?;
     match a {
         Taken::Connection(after) => {
-            text(b"0\n");
-            after
+            text(rt, b"0\n")?;
+            Ok(after)
         }
         Taken::Refused(r) => {
-            small(refusal_number(r));
-            text(b"\n");
-            c
+            small(rt, refusal_number(r))?;
+            text(rt, b"\n")?;
+            Ok(c)
         }
     }
 }
 
-fn letter(r: Reason) {
+fn letter(rt: &impl Print, r: Reason) -> io::Result<()> {
     match r {
-        Reason::Complete => text(b"C"),
-        Reason::Cut => text(b"X"),
-        Reason::OpenRefused => text(b"O"),
-        Reason::Sequence => text(b"S"),
-        Reason::PeerAborted(_) => text(b"P"),
-        Reason::Timeout => text(b"T"),
-        Reason::BadSegment => text(b"U"),
+        Reason::Complete => text(rt, b"C"),
+        Reason::Cut => text(rt, b"X"),
+        Reason::OpenRefused => text(rt, b"O"),
+        Reason::Sequence => text(rt, b"S"),
+        Reason::PeerAborted(_) => text(rt, b"P"),
+        Reason::Timeout => text(rt, b"T"),
+        Reason::BadSegment => text(rt, b"U"),
     }
 }
 
 // The end, as node:letter:delivered, or `-`.
-pub(crate) fn end(c: SdoClientConnection) {
-    text(b"end ");
+pub(crate) fn end(rt: &impl Print, c: SdoClientConnection) -> io::Result<()> {
+    text(rt, b"end ")?;
     match c.end() {
         EndFound::End(e) => {
             let reason = e.reason;
-            small(e.node);
-            text(b":");
-            letter(reason);
-            text(b":");
-            number(e.delivered as u64);
+            small(rt, e.node)?;
+            text(rt, b":")?;
+            letter(rt, reason)?;
+            text(rt, b":")?;
+            number(rt, e.delivered as u64)?;
         }
-        EndFound::Running => text(b"-"),
+        EndFound::Running => text(rt, b"-")?,
     }
-    text(b"\n");
+    text(rt, b"\n")
 }
 
 pub(crate) fn absent(time: u64) -> Now {
@@ -130,61 +143,70 @@ pub(crate) fn replied(c: SdoClientConnection, octet0: u8, octet1: u8, room: &mut
     handle_response(c, seq, cmd, &none, room)
 }
 
-fn reply(c: SdoClientConnection, octet0: u8, octet1: u8, room: &mut [u8]) -> SdoClientConnection {
-    came(b"reply ", replied(c, octet0, octet1, room), c)
+fn reply(
+    rt: &impl Print,
+    c: SdoClientConnection,
+    octet0: u8,
+    octet1: u8,
+    room: &mut [u8],
+) -> io::Result<SdoClientConnection> {
+    came(rt, b"reply ", replied(c, octet0, octet1, room), c)
 }
 
 // Document 01's five records.
-fn run() {
+fn run(rt: &impl Print) -> io::Result<()> {
     let mut room = [0u8; 4096];
     let new = SdoClientConnection::new(5, 0);
     let bytes = [0x01, 0x04];
-    let c = came(b"write ", write_of(new, &bytes, &mut room), new);
-    let c = show(b"ask ", get_pending_request(c, absent(0)), c, &room);
-    let c = reply(c, 0x01, 0x01, &mut room);
-    let c = show(b"ask ", get_pending_request(c, absent(0)), c, &room);
-    let c = reply(c, 0x06, 0x06, &mut room);
-    end(c);
+    let c = came(rt, b"write ", write_of(new, &bytes, &mut room), new)?;
+    let c = show(rt, b"ask ", get_pending_request(c, absent(0)), c, &room)?;
+    let c = reply(rt, c, 0x01, 0x01, &mut room)?;
+    let c = show(rt, b"ask ", get_pending_request(c, absent(0)), c, &room)?;
+    let c = reply(rt, c, 0x06, 0x06, &mut room)?;
+    end(rt, c)
 }
 
 // Retries 0: before the deadline nothing, at it the abort command. Retries 1: first nothing, since no command was sent yet.
-fn timeouts() {
+fn timeouts(rt: &impl Print) -> io::Result<()> {
     let mut room = [0u8; 4096];
     let new = SdoClientConnection::new(5, 0);
     let c = came(
+        rt,
         b"read ",
         start_read_job(new, Mode::Repository, 0x2100, 1, 1, with_retries(0, 0)),
         new,
-    );
-    let c = show(b"tick ", tick(c, with_retries(14999999, 0)), c, &room);
-    let c = show(b"tick ", tick(c, with_retries(15000000, 0)), c, &room);
-    end(c);
+    )?;
+    let c = show(rt, b"tick ", tick(c, with_retries(14999999, 0)), c, &room)?;
+    let c = show(rt, b"tick ", tick(c, with_retries(15000000, 0)), c, &room)?;
+    end(rt, c)?;
     let d = came(
+        rt,
         b"read ",
         start_read_job(new, Mode::Repository, 0x2100, 1, 1, with_retries(0, 1)),
         new,
-    );
-    let d = show(b"tick ", tick(d, with_retries(15000000, 1)), d, &room);
-    let d = show(b"tick ", tick(d, with_retries(29999999, 1)), d, &room);
-    let d = show(b"tick ", tick(d, with_retries(30000000, 1)), d, &room);
-    end(d);
+    )?;
+    let d = show(rt, b"tick ", tick(d, with_retries(15000000, 1)), d, &room)?;
+    let d = show(rt, b"tick ", tick(d, with_retries(29999999, 1)), d, &room)?;
+    let d = show(rt, b"tick ", tick(d, with_retries(30000000, 1)), d, &room)?;
+    end(rt, d)
 }
 
 // A command sent and not answered is repeated as it was, twice, and then aborted.
-fn repeats() {
+fn repeats(rt: &impl Print) -> io::Result<()> {
     let mut room = [0u8; 4096];
     let new = SdoClientConnection::new(5, 0);
     let c = came(
+        rt,
         b"read ",
         start_read_job(new, Mode::Repository, 0x2100, 1, 7, absent(0)),
         new,
-    );
-    let c = show(b"ask ", get_pending_request(c, absent(0)), c, &room);
-    let c = show(b"ask ", get_pending_request(c, absent(0)), c, &room);
-    let c = show(b"tick ", tick(c, absent(15000000)), c, &room);
-    let c = show(b"tick ", tick(c, absent(30000000)), c, &room);
-    let c = show(b"tick ", tick(c, absent(45000000)), c, &room);
-    end(c);
+    )?;
+    let c = show(rt, b"ask ", get_pending_request(c, absent(0)), c, &room)?;
+    let c = show(rt, b"ask ", get_pending_request(c, absent(0)), c, &room)?;
+    let c = show(rt, b"tick ", tick(c, absent(15000000)), c, &room)?;
+    let c = show(rt, b"tick ", tick(c, absent(30000000)), c, &room)?;
+    let c = show(rt, b"tick ", tick(c, absent(45000000)), c, &room)?;
+    end(rt, c)
 }
 
 // A write of 2100:01 as the first start of a connection's.
@@ -193,33 +215,36 @@ fn write_of(c: SdoClientConnection, data: &[u8], room: &mut [u8]) -> Taken {
 }
 
 // 7 NoRoom at 4,093 data bytes and not at 4,092; then 4 Busy.
-fn rooms() {
+fn rooms(rt: &impl Print) -> io::Result<()> {
     let mut room = [0u8; 4096];
     let new = SdoClientConnection::new(5, 0);
     let data = [7u8; 4096];
     let over = part(&data, 0, 4093);
-    let c = came(b"write 4093 ", write_of(new, over, &mut room), new);
+    let c = came(rt, b"write 4093 ", write_of(new, over, &mut room), new)?;
     let most = part(&data, 0, 4092);
-    let c = came(b"write 4092 ", write_of(c, most, &mut room), c);
+    let c = came(rt, b"write 4092 ", write_of(c, most, &mut room), c)?;
     let c = came(
+        rt,
         b"read ",
         start_read_job(c, Mode::Repository, 0x2100, 1, 1, absent(0)),
         c,
-    );
-    end(c);
+    )?;
+    end(rt, c)
 }
 
 // 5 DcfTooShort, 8 DeadlineRange.
-fn refusals() {
+fn refusals(rt: &impl Print) -> io::Result<()> {
     let mut room = [0u8; 4096];
     let new = SdoClientConnection::new(5, 0);
     let three = [2u8, 0, 0];
     let c = came(
+        rt,
         b"dcf ",
         start_concise_dcf_job(new, Mode::Repository, &three, 1, absent(0), &mut room),
         new,
-    );
+    )?;
     let c = came(
+        rt,
         b"read ",
         start_read_job(
             c,
@@ -230,15 +255,15 @@ fn refusals() {
             absent(18446744073709551615),
         ),
         c,
-    );
-    end(c);
+    )?;
+    end(rt, c)
 }
 
-fn main() {
-    run();
-    timeouts();
-    repeats();
-    rooms();
-    refusals();
-    totals::totals();
+fn main(rt: HostRuntime) -> io::Result<()> {
+    run(&rt)?;
+    timeouts(&rt)?;
+    repeats(&rt)?;
+    rooms(&rt)?;
+    refusals(&rt)?;
+    totals::totals(&rt)
 }

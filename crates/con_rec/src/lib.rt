@@ -2,6 +2,7 @@
 // is sent in, deadlines, headers and payloads. What the calls make of a record is in the crates connection and con_reply. The names are those of the
 // repository's client_connection.rs where it has them. The types stand here, at the root, since every check writes their names out.
 #![tactic(auto)]
+
 ghost use Rattle.std.specs.Prelude.{◌≡◌};
 ghost use Rattle.con_rec.specs.Record.{new_connection, end_of};
 

@@ -73,7 +73,7 @@ module _ (a : Aim) (got : List Bytes) where
       over a got (with_job c (delivered_one c.job)) Reason.Complete (all.0, all.1, omega (arith, all.2, st.1))
   reply_next_lem c t r j h DcfStep.Unreadable st =
       let all = last_sent j h st.0 in
-      over a got (with_job c (delivered_one c.job)) Reason.Cut (all.0, all.1, λ z. st.1 (omega (arith, all.2)))
+      over a got (with_job c (delivered_one c.job)) _ (all.0, all.1, omega (arith, all.2, st.1))
 
   pub next_left : (c : Connection) (t : Transfer) → c.outcome ≡ Outcome.Running
       → Carried a got State.DownloadInProgress (LoadedTransfer.Loaded t) c.job.offset c.job.cursor c.job.delivered

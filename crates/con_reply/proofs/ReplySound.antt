@@ -87,7 +87,7 @@ module _ (b : Connection) (number : ℕ) (room : Bytes) (i : Consistent (cleared
         refused = ended_sound c room i Reason.OpenRefused;
         sent = λ e. sent_sound (runs c room i State.DownloadInProgress e refl) c.job.loaded;
         uploads = λ e.
-            moved State.UploadInProgress c.transaction_id (with_upload c.job 0) i.within i.held
+            moved State.UploadInProgress c.transaction_id _ i.within i.held
             (not_downloading State.UploadInProgress refl c.job.loaded) (omega arith) (runs c room i State.UploadInit e refl);
         bad = ended_sound c room i Reason.BadSegment;
         more = λ never from h. bytes_sound _ h;

@@ -1,7 +1,7 @@
 // Reply: what a command from the server brings about. Decided on the record and the job's bytes; the only thing done to the room is to
 // put an upload's bytes in it.
 ghost use Rattle.std.specs.Prelude.{◌≡◌};
-ghost use Rattle.con_reply.specs.Reply.{cleared as clearedOf, delivered_one, in_state, one_more, receive_initializes, replied, reply_first, reply_heard, reply_in, reply_more, reply_next, reply_of, reply_opening, reply_sent, reply_taken, reply_to, room_after, room_for, send_initializes, stored_last, stored_more, with_bytes, with_job, with_transfer};
+ghost use Rattle.con_reply.specs.Reply.{cleared as cleared_of, delivered_one, in_state, one_more, receive_initializes, replied, reply_first, reply_heard, reply_in, reply_more, reply_next, reply_of, reply_opening, reply_sent, reply_taken, reply_to, room_after, room_for, send_initializes, stored_last, stored_more, with_bytes, with_job, with_transfer};
 
 use codec::command::{SdoCommand, Segmentation};
 use codec::dcf::{DcfCursor, DcfStep, dcf_step};
@@ -36,7 +36,7 @@ pub enum RoomFor {
 
 // The command, deadline and retries are cleared, and a number is the last received.
 fn cleared(c: SdoClientConnection, last: u8) -> SdoClientConnection
-    ensures { result ≡ clearedOf c last }
+    ensures { result ≡ cleared_of c last }
 {
     SdoClientConnection {
         target_node_id: c.target_node_id,

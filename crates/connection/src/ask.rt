@@ -1,8 +1,8 @@
 // Ask: what a connection has to send. It looks at the record alone, and answers the new record and the command with its place.
 ghost use Rattle.std.specs.Prelude.{◌≡◌};
-ghost use Rattle.connection.specs.Ask.{quiet as quietStep, given as givenStep, finish as finishOf, ask_read, ask_first, ask_later, ask_in, ask_of};
+ghost use Rattle.connection.specs.Ask.{quiet as quiet_step, given as given_step, finish as finish_of, ask_read, ask_first, ask_later, ask_in, ask_of};
 ghost use Rattle.con_rec.specs.Commands.{outgoing};
-ghost use Rattle.con_rec.specs.Record.{ended as endedWith};
+ghost use Rattle.con_rec.specs.Record.{ended as ended_with};
 
 use codec::refusal::Refusal;
 use con_rec::commands::numbered;
@@ -16,7 +16,7 @@ use con_rec::{
 
 // Nothing is given.
 pub(crate) fn quiet(c: SdoClientConnection) -> Stepped
-    ensures { result ≡ quietStep c }
+    ensures { result ≡ quiet_step c }
 {
     Stepped::Went(Step {
         connection: c,
@@ -26,7 +26,7 @@ pub(crate) fn quiet(c: SdoClientConnection) -> Stepped
 
 // Closed, nothing waited for, for a reason.
 pub fn ended(c: SdoClientConnection, why: Reason) -> SdoClientConnection
-    ensures { result ≡ endedWith c why }
+    ensures { result ≡ ended_with c why }
 {
     SdoClientConnection {
         target_node_id: c.target_node_id,
@@ -53,7 +53,7 @@ fn given(
     sent: u64,
     message: Message,
 ) -> Stepped
-    ensures { result ≡ givenStep c n s sent (outgoing c message) }
+    ensures { result ≡ given_step c n s sent (outgoing c message) }
 {
     let timeout = n.timeout;
     let retries = n.retries;
@@ -90,7 +90,7 @@ fn given(
 
 // Complete where none is counted any more, else Cut.
 fn finish(left: u32) -> Reason
-    ensures { result ≡ finishOf left }
+    ensures { result ≡ finish_of left }
 {
     if left == 0 {
         Reason::Complete

@@ -3,6 +3,7 @@
 // place; the bytes of a job lie in a room that the caller lends, and are touched by start, by reply (in con_reply) and by write_payload
 // (in con_rec) only.
 #![tactic(auto)]
+
 pub mod ask;
 pub mod start;
 pub mod tick;

@@ -6,7 +6,7 @@ ghost use Rattle.connection.specs.Start.{
   job_with,
   dcf_job,
   dcf_transaction,
-  started as startedOf,
+  started as started_of,
   start_read,
   start_write,
   start_dcf,
@@ -67,7 +67,7 @@ fn job_with(
 
 // Opening, with a job and its deadline; 8 where the deadline does not fit.
 fn started(c: SdoClientConnection, tid: u8, n: Now, job: SdoJob) -> Taken
-    ensures { result ≡ startedOf c tid n job }
+    ensures { result ≡ started_of c tid n job }
 {
     let timeout = n.timeout;
     let retries = n.retries;

@@ -1,6 +1,6 @@
 // Tick: what a deadline that has passed brings about. It looks at the record alone.
 ghost use Rattle.std.specs.Prelude.{◌≡◌, ◌<◌};
-ghost use Rattle.connection.specs.Tick.{repeated as repeatedOf, retried_at, timed_out, tick_at, tick_of};
+ghost use Rattle.connection.specs.Tick.{repeated as repeated_of, retried_at, timed_out, tick_at, tick_of};
 
 use crate::ask::{ended, quiet};
 use codec::refusal::Refusal;
@@ -15,7 +15,7 @@ const TIMED_OUT: u32 = 0x05040000;
 
 // The outstanding command again, or nothing if none was sent yet.
 fn repeated(o: Outstanding) -> Sends
-    ensures { result ≡ repeatedOf o }
+    ensures { result ≡ repeated_of o }
 {
     match o {
         Outstanding::Waits(k) => Sends::Gives(k),

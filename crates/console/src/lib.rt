@@ -1,61 +1,81 @@
-// What the programs write to standard output: text, numbers, bytes in hex, frames. No contract can say what is written.
+// What the programs read, until a buffer is full; and what they write to standard output: text, numbers, bytes in hex, frames. No contract can say what is
+// written.
 #![tactic(auto)]
+
+ghost use Rattle.std.specs.Prelude.{◌≤◌, length};
+
 use codec::command::SdoCommand;
 use codec::octets::part;
 use codec::sequence::{SequenceLayerHeader, Written};
-use libc::STDOUT_FILENO;
+use std::io;
+use std::io::Read;
 
-pub fn text(b: &[u8])
-    ensures { Unit {0} }
+// Reads until the buffer is full, the input ends or a read fails, and answers how many bytes there are at the buffer's start then.
+pub fn read_full(from: &mut impl Read, buf: &mut [u8]) -> usize
+    ensures { result ≤ length buf.new }
 {
-    io::write_all(STDOUT_FILENO, b);
+    let mut done: usize = 0;
+    while done < buf.len() {
+        match from.read(&mut buf[done..]) {
+            Ok(0) | Err(_) => break,
+            Ok(n) => done += n,
+        }
+    }
+    done
 }
 
-pub fn number(n: u64)
+pub fn text(rt: &impl Print, b: &[u8]) -> io::Result<()>
     ensures { Unit {0} }
 {
-    io::print_decimal(STDOUT_FILENO, n);
+    rt.write_all(b)
 }
 
-fn wide(x: u8) -> u64 {
-    x as u64
+pub fn number(rt: &impl Print, n: u64) -> io::Result<()>
+    ensures { Unit {0} }
+{
+    rt.print(n)
 }
 
 // A number of one byte: a node, a refusal.
-pub fn small(n: u8)
+pub fn small(rt: &impl Print, n: u8) -> io::Result<()>
     ensures { Unit {0} }
 {
-    number(wide(n));
+    rt.print(n)
 }
 
-// A number in hex, with zeros in front up to so many digits.
-pub fn hex(n: u64, digits: usize)
+// A number in hex, with zeros in front up to so many digits, sixteen at most.
+pub fn hex(rt: &impl Print, n: u64, digits: usize) -> io::Result<()>
     ensures { Unit {0} }
 {
-    io::print_hex(STDOUT_FILENO, n, digits);
+    let width = digits.min(16);
+    print!(rt; "{n:0width$x}")
 }
 
 // Bytes in hex.
-pub fn octets(b: &[u8])
-    ensures* { ⊤ₛ }
+pub fn octets(rt: &impl Print, b: &[u8]) -> io::Result<()>
+    ensures { Unit {0} }
 {
-    let mut i: usize = 0;
-    while i < b.len() {
-        hex(wide(b[i]), 2);
-        i += 1;
+    for x in b {
+        print!(rt; "{x:02x}")?;
     }
+    Ok(())
 }
 
 // The bytes of a frame: sequence header, and a command of at most 1,464 bytes.
-pub fn frame(sequence: SequenceLayerHeader, command: SdoCommand, payload: &[u8])
+pub fn frame(
+    rt: &impl Print,
+    sequence: SequenceLayerHeader,
+    command: SdoCommand,
+    payload: &[u8],
+) -> io::Result<()>
     ensures { Unit {0} }
 {
     let mut header = [0u8; 4];
     let mut bytes = [0u8; 1464];
     sequence.serialize(&mut header);
-    octets(&header);
+    octets(rt, &header)?;
     let Written::Bytes(n) = command.serialize(payload, &mut bytes) else {
-        return;
+        return Ok(());
     };
-    octets(part(&bytes, 0, n));
+    octets(rt, part(&bytes, 0, n))
 }

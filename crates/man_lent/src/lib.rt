@@ -3,6 +3,7 @@
 // tells the host the rest; `next_action_time` only looks at the manager, and `value_in` needs none. Every function is total on any manager and any
 // slices. Refusals are those of the manager's own calls, where they are told.
 #![tactic(auto)]
+
 ghost use Rattle.std.specs.Prelude.{◌≡◌, []};
 ghost use Rattle.manager.specs.Calls.{called, starts, turns, replies, writes, reads, loads, least_deadline};
 ghost use Rattle.man_table.specs.Table.{live};

@@ -1,7 +1,7 @@
 // The manager's value, and what its table answers.
 ghost use Rattle.std.specs.Prelude.{◌≡◌};
-ghost use Rattle.man_table.specs.Table.{blank as blankOf, new_manager};
-ghost use Rattle.man_table.specs.Sweep.{no_ends as noEndsOf};
+ghost use Rattle.man_table.specs.Table.{blank as blank_of, new_manager};
+ghost use Rattle.man_table.specs.Sweep.{no_ends as no_ends_of};
 
 use codec::refusal::Refusal;
 use con_rec::{End, Outgoing, Reason, SdoClientConnection};
@@ -66,14 +66,14 @@ pub struct Walk {
 
 // The connection that stands in every place past the held ones.
 pub fn blank() -> SdoClientConnection
-    ensures { result ≡ blankOf }
+    ensures { result ≡ blank_of }
 {
     SdoClientConnection::new(0, 0)
 }
 
 // No end to report.
 pub fn no_ends() -> Ends
-    ensures { result ≡ noEndsOf }
+    ensures { result ≡ no_ends_of }
 {
     let none = End {
         node: 0,

@@ -1,6 +1,7 @@
 // Values (document 02, CR 1): the part of the store with what a read brought, that part handed out, and the object that a node's job reads. What a reply
 // answers is in the crate manager. Every function is total on any manager, any connection and any store.
 #![tactic(auto)]
+
 ghost use Rattle.std.specs.Prelude.{◌≡◌, ◌≤◌};
 ghost use Rattle.man_table.specs.Table.{room_start};
 ghost use Rattle.man_value.specs.Value.{uploaded_part, is_complete, object_of, value_in};

@@ -1,10 +1,10 @@
 // For the replay's loop, which keeps the manager where it is; a panel uses start, turn, reply and next. A change, and the manager after it.
 ghost use Rattle.std.specs.Prelude.{◌≡◌};
 ghost use Rattle.manager.specs.Change.{
-  same as sameOf,
-  putting as puttingOf,
-  taking as takingOf,
-  leaving as leavingOf,
+  same as same_of,
+  putting as putting_of,
+  taking as taking_of,
+  leaving as leaving_of,
   entered_at,
   number_after,
   change_done,
@@ -20,7 +20,7 @@ use man_table::types::{Entry, SdoClientManager, no_ends};
 
 // Nothing changes.
 pub fn same(answer: Answer) -> Change
-    ensures { result ≡ sameOf answer }
+    ensures { result ≡ same_of answer }
 {
     Change {
         entry: Entry::Nowhere,
@@ -32,7 +32,7 @@ pub fn same(answer: Answer) -> Change
 
 // A tick, an ask or a reply puts a connection somewhere, and those that have ended are removed.
 pub(crate) fn putting(entry: Entry, answer: Answer) -> Change
-    ensures { result ≡ puttingOf entry answer }
+    ensures { result ≡ putting_of entry answer }
 {
     Change {
         entry,
@@ -44,7 +44,7 @@ pub(crate) fn putting(entry: Entry, answer: Answer) -> Change
 
 // A start enters a connection, or is refused, and takes a number.
 pub(crate) fn taking(entry: Entry, answer: Answer) -> Change
-    ensures { result ≡ takingOf entry answer }
+    ensures { result ≡ taking_of entry answer }
 {
     Change {
         entry,
@@ -85,7 +85,7 @@ fn entered(m: SdoClientManager, entry: Entry, number: u8) -> SdoClientManager
 
 // A call that went through: the ended connections are removed and reported. Mostly none has ended, and then the table isn't filled anew.
 pub(crate) fn leaving(m: SdoClientManager, answer: Answer) -> Done
-    ensures { result ≡ leavingOf (live m) m.next_transaction_id answer }
+    ensures { result ≡ leaving_of (live m) m.next_transaction_id answer }
 {
     if any_end(m) {
         return Done {

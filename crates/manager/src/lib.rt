@@ -2,6 +2,7 @@
 // the bytes of its jobs lie in a store of 32,768 bytes that the caller lends, a room of 4,096 for each connection held. Every function is total on
 // any manager and any slices.
 #![tactic(auto)]
+
 pub mod change;
 pub mod change_reply;
 pub mod change_start;

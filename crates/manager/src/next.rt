@@ -1,6 +1,6 @@
 // next_action_time: when the host should call tick next.
 ghost use Rattle.std.specs.Prelude.{◌≡◌};
-ghost use Rattle.manager.specs.Calls.{sooner as soonerOf, least_deadline};
+ghost use Rattle.manager.specs.Calls.{sooner as sooner_of, least_deadline};
 ghost use Rattle.man_table.specs.Table.{live};
 
 use con_rec::Deadline;
@@ -8,7 +8,7 @@ use man_table::held::lived;
 use man_table::types::SdoClientManager;
 
 fn sooner(a: Deadline, b: Deadline) -> Deadline
-    ensures { result ≡ soonerOf a b }
+    ensures { result ≡ sooner_of a b }
 {
     match a {
         Deadline::Never => b,

@@ -1,7 +1,7 @@
 // Tick and ask: the walk, the payload at the start of the output, and the ended connections removed.
 ghost use Rattle.std.specs.Prelude.{◌≡◌};
 ghost use Rattle.manager.specs.Calls.{sent_to, called, turns};
-ghost use Rattle.manager.specs.Change.{refusing as refusingOf};
+ghost use Rattle.manager.specs.Change.{refusing as refusing_of};
 
 use crate::change::leaving;
 use crate::room::room_in;
@@ -15,7 +15,7 @@ use man_table::walk::walk;
 
 // A call that refuses.
 fn refusing(m: SdoClientManager, r: Refusal) -> Done
-    ensures { result ≡ refusingOf m r }
+    ensures { result ≡ refusing_of m r }
 {
     Done {
         manager: m,

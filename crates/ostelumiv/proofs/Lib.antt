@@ -1,2 +1,3 @@
 pub mod NumbersName
 pub mod NumbersRefuse
+mod Headers

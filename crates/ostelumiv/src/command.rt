@@ -77,12 +77,14 @@ fn number_of(flag: bool) -> u8
     if flag { 1 } else { 0 }
 }
 
+#[tactic(auto, using(laws::proofs::Picks::is, laws::proofs::Picks::is_not))]
 fn flagged_by(n: u8) -> bool
     ensures { result ≡ flagged n }
 {
     if n == 0 { false } else { true }
 }
 
+#[tactic(auto, using(laws::proofs::Picks::is, laws::proofs::Picks::is_not))]
 fn size_named(has: u8, size: u32) -> DataSize
     ensures { result ≡ size_named has size }
 {
@@ -94,6 +96,7 @@ fn size_named(has: u8, size: u32) -> DataSize
 }
 
 // The command that eight numbers name, or 2.
+#[tactic(auto, using(laws::proofs::Picks::below, laws::proofs::Picks::not_below))]
 fn command_named(
     transaction: u8,
     response: u8,
@@ -126,6 +129,7 @@ fn command_named(
 }
 
 // The command at the start of the buffer, and the place and length of its payload there.
+#[tactic(auto, using(crate::proofs::Headers::has_header))]
 #[unsafe(no_mangle)]
 pub extern "C" fn ostelumiv_command_read(buffer: &[u8]) -> CommandFields
     ensures { result ≡ command_fields (command_read buffer.now) }

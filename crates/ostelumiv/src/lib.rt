@@ -2,6 +2,7 @@
 // codec and answers with a struct of numbers. A refusal is a number in it: with one, and where nothing is found, its other numbers are
 // 0, and no byte was written.
 #![tactic(auto)]
+
 pub mod answers;
 pub mod command;
 pub mod dcf;

@@ -21,6 +21,7 @@ pub struct SequenceFields {
 }
 
 // The header that four numbers name, or 2.
+#[tactic(auto, using(laws::proofs::Picks::below, laws::proofs::Picks::not_below))]
 fn header_named(receive: u8, receive_con: u8, send: u8, send_con: u8) -> SequenceRead
     ensures { result ≡ header_named receive receive_con send send_con }
 {

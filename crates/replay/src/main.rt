@@ -1,15 +1,14 @@
 // The replay. Its stdin and stdout beside src/ are document 01's run.
 #![tactic(auto)]
-use libc::STDERR_FILENO;
 
-fn main() {
+use std::env::{Env, FillError};
+use std::io;
+
+fn main(rt: HostRuntime) -> io::Result<()> {
     // a file's name is no input, and without this the replay would wait for records
-    if 1 < os::arg_count() {
-        io::write_all(
-            STDERR_FILENO,
-            b"replay takes no arguments: records on standard input\n",
-        );
-        return;
+    let mut start = [0u8; 1];
+    if !matches!(rt.arg(1, &mut start), Err(FillError::NotPresent)) {
+        return rt.eprintln("replay takes no arguments: records on standard input");
     }
-    replay_run::replay::replay();
+    replay_run::replay::replay(&rt, &mut rt.stdin())
 }

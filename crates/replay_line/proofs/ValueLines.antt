@@ -1,9 +1,9 @@
 -- What the parts of a value's line come to.
 use Prim.Native.Nat.{◌≤◌, ◌<◌}
 use native.Mathlib.Omega.{arith}
-use mathlib.Core.Path.{◌≡◌, refl, sym, ap, ◌∙◌}
+use mathlib.Core.Path.{◌≡◌, refl, ap, ◌∙◌}
 use mathlib.Core.List.{[], ◌∷◌}
-use lib.ListN.{length, get_or, take, drop, length-take}
+use lib.ListN.{length, take, drop, length-take}
 use Rattle.codec.specs.Bytes.{Bytes}
 use Rattle.replay_line.specs.Line.{nothing}
 use Rattle.replay_line.specs.Text.{hex}

@@ -1,7 +1,7 @@
 // A line of the replay: record number, operation, refusal or 0, node sent to, bytes sent in hex, ends; `-` for nothing.
 ghost use Rattle.std.specs.Prelude.{◌≡◌, ◌+◌, ◌≤◌, length, take};
 ghost use Rattle.replay_line.specs.Line.{
-  letter as letterOf,
+  letter as letter_of,
   operation_text,
   refusal_text,
   node_text,
@@ -35,7 +35,7 @@ use manager::types::{Answer, OUTPUT_SIZE, SentTo};
 pub const MOST_LINE: usize = 8211;
 
 fn letter(r: Reason) -> u8
-    ensures { result ≡ letterOf r }
+    ensures { result ≡ letter_of r }
 {
     match r {
         Reason::Complete => b'C',

@@ -3,8 +3,6 @@ use Prim.Native.Nat.{ℕ, min, ◌+◌, ◌-◌, ◌<◌, ◌≤◌}
 use native.Mathlib.Omega.{arith}
 use mathlib.Core.Path.{◌≡◌, refl, sym, ap, subst, ◌∙◌}
 use mathlib.Core.Bool.{Bool, true, false}
-use mathlib.Core.Logic.{◌⊎◌, ⊎_elim}
-use denote.Enum.Declared.{tag_of}
 use lib.Dec.{eqb, ltb}
 use lib.ListN.{length, length-take, set}
 use borrow.Author.Tests.{eq-eqb, le-ltb, lt-ltb, ne_eqb}
@@ -13,7 +11,6 @@ use Rattle.codec.specs.Bytes.{Bytes, part_at, placed}
 use Rattle.con_rec.specs.Record.{end_with}
 use Rattle.man_table.specs.Sweep.{end_here, no_ends}
 use Rattle.man_table.specs.Table.{live}
-use Rattle.man_table.specs.contracts.types.Entry.{the_type}
 use Rattle.replay_line.specs.Line.{line_of}
 use Rattle.manager.specs.Calls.{After}
 use Rattle.manager.specs.Change.{answering, number_after}
@@ -80,14 +77,14 @@ module _ (m : SdoClientManager) (change : Change) where
   unfolding number_after pick
   put_past {place = place} e l f n = rw (e, n, f, le-ltb place m.count l) refl
 
-  put_none : (e : Entry) → (tag_of the_type e ≡ 0) ⊎ (tag_of the_type e ≡ 2) → put_in e m.count m.connections ≡ m.connections
-  put_none Entry.Nowhere w = refl
-  put_none (Entry.At k c) w = ⊎_elim (λ x. absurd (omega arith)) (λ x. absurd (omega arith)) w
-  put_none (Entry.New c) w = refl
+  put_none : (e : Entry) → ((place : ℕ) (c : SdoClientConnection) → e ≡ Entry.At place c → ⊥) → put_in e m.count m.connections ≡ m.connections
+  put_none Entry.Nowhere never = refl
+  put_none (Entry.At k c) never = absurd (never k c refl)
+  put_none (Entry.New c) never = refl
 
-  pub left_there : {k : SdoClientManager} {number : ℕ} → (tag_of the_type change.entry ≡ 0) ⊎ (tag_of the_type change.entry ≡ 2) → k ≡ m
+  pub left_there : {k : SdoClientManager} {number : ℕ} → ((place : ℕ) (c : SdoClientConnection) → change.entry ≡ Entry.At place c → ⊥) → k ≡ m
       → number ≡ number_after change k.next_transaction_id → numbered k number ≡ in_place m change
-  left_there w f n = rw (n, f, put_none change.entry w) refl
+  left_there never f n = rw (n, f, put_none change.entry never) refl
 
 -- those held are eight at most
 pub few_held : (m : SdoClientManager) → Neat m → length m.connections ≡ 8 → m.count ≤ 8

@@ -6,7 +6,7 @@ ghost use Rattle.manager.specs.Plan.{plan_done};
 ghost use Rattle.con_rec.specs.Record.{end_of};
 ghost use Rattle.man_table.specs.Sweep.{end_here};
 ghost use Rattle.replay_record.specs.Request.{asked_plan, record_asks};
-ghost use Rattle.replay_piece.specs.Moves.{moved_line, moved_run, moves as movesBy};
+ghost use Rattle.replay_piece.specs.Moves.{moved_line, moved_run, moves as moves_by};
 ghost use Rattle.replay_piece.specs.Piece.{piece_of, run_of, last_by, value_after};
 
 use crate::told::{told, told_quiet, told_value};
@@ -73,7 +73,7 @@ fn moved(
     ensures value { result ≡ moved_run run shows plan b.now store.now output.old }
     ensures output_after { output.new ≡ (plan_done plan run.manager store.now output.old).output }
     ensures text_after { text.new ≡ placed text.old run.progress.text (moved_line run shows plan b.now store.now output.old) }
-    ensures output_len_unchanged { (length output.new ≡ length output.old) × (length text.new ≡ length text.old) }
+    ensures lengths_unchanged { (length output.new ≡ length output.old) × (length text.new ≡ length text.old) }
 {
     let m = run.manager;
     let r = run.progress;
@@ -103,7 +103,7 @@ fn ended(c: SdoClientConnection) -> bool
 
 // Whether a record's plan is carried out by value: it moves the manager, or values are shown.
 fn moves(shows: Shows, plan: Plan) -> bool
-    ensures { result ≡ movesBy shows plan }
+    ensures { result ≡ moves_by shows plan }
 {
     let Shows::Lines = shows else {
         return true;
@@ -134,7 +134,7 @@ fn plan_of(
     ensures gather_after { gather.new ≡ (asked_plan m store.old output.old (record_asks gathered b.now choices gather.old)).gather }
     ensures output_after { output.new ≡ (asked_plan m store.old output.old (record_asks gathered b.now choices gather.old)).output }
     ensures connections_len { length m.connections ≡ 8 }
-    ensures store_len_unchanged { (length store.new ≡ length store.old) × ((length gather.new ≡ length gather.old) × (length output.new ≡ length output.old)) }
+    ensures lengths_unchanged { (length store.new ≡ length store.old) × ((length gather.new ≡ length gather.old) × (length output.new ≡ length output.old)) }
 {
     plan_record(m, gathered, b, choices, store, gather, output)
 }

@@ -18,8 +18,12 @@ use Rattle.replay_record.specs.Types.{Choices, Mode, Now, Record, RecordPlan, Re
 module _ (m : SdoClientManager) (store output : Bytes) where
   abbrev pub Plans : Asked → RecordPlan → Bytes → Bytes → Bytes → Type 0
   Plans x p s g o =
-      (p ≡ (asked_plan m store output x).plan)
-      × ((s ≡ (asked_plan m store output x).store) × ((g ≡ (asked_plan m store output x).gather) × (o ≡ (asked_plan m store output x).output)))
+      record {
+        value : p ≡ (asked_plan m store output x).plan;
+        store_after : s ≡ (asked_plan m store output x).store;
+        gather_after : g ≡ (asked_plan m store output x).gather;
+        output_after : o ≡ (asked_plan m store output x).output;
+      }
 
   pub plans : {x y : Asked} {p : RecordPlan} {s g o : Bytes} → x ≡ y → Plans x p s g o → Plans y p s g o
   plans {p = p} {s = s} {g = g} {o = o} e h = subst (λ (z : Asked). Plans z p s g o) e h

@@ -2,6 +2,7 @@
 // the manager is. Every function is total: a bad record gets its number, and nothing else happens. The crate replay_piece carries records out one after
 // another; the lines are in the crate replay_line.
 #![tactic(auto)]
+
 pub mod gather;
 pub mod plan;
 pub mod record;

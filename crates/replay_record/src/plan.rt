@@ -1,6 +1,6 @@
 // For a loop over records that keeps the manager where it is: the plan of a record. The store, the gather's bytes and the output are ahead of it.
 ghost use Rattle.std.specs.Prelude.{◌≡◌, [], ◌≤◌, length};
-ghost use Rattle.manager.specs.Change.{same as sameOf};
+ghost use Rattle.manager.specs.Change.{same as same_of};
 ghost use Rattle.manager.specs.Plan.{plan_of};
 ghost use Rattle.replay_record.specs.Request.{reply_header, reply_command, use_call, operation_asks, record_asks, asked_plan};
 
@@ -38,7 +38,7 @@ pub struct RecordPlan {
 
 // An answer of the replay's own: the manager stays.
 fn answered(answer: Answer, gathered: usize) -> RecordPlan
-    ensures { result ≡ record { plan = Plan.Change (sameOf answer); gathered = gathered } }
+    ensures { result ≡ record { plan = Plan.Change (same_of answer); gathered = gathered } }
 {
     RecordPlan {
         plan: Plan::Change(same(answer)),
@@ -120,7 +120,7 @@ fn plan_use(
 }
 
 fn gathered_as(g: Gathered) -> RecordPlan
-    ensures { result ≡ record { plan = Plan.Change (sameOf g.answer); gathered = g.gathered } }
+    ensures { result ≡ record { plan = Plan.Change (same_of g.answer); gathered = g.gathered } }
 {
     let answer = g.answer;
     answered(answer, g.gathered)

@@ -2,6 +2,7 @@
 // trusted for one thing, to be a host as replay_piece's specs/Pieces has it: it begins with a new manager and zeros, reads the input in order, passes whole
 // records on from where the last call stopped until all is read, and writes each text once, in order. That this prints all lines, or all values, is the law there.
 #![tactic(auto)]
+
 pub(crate) mod parameters;
 pub mod replay;
 pub(crate) mod state;

@@ -4,9 +4,10 @@ ghost use Rattle.std.specs.Prelude.{◌≤◌};
 use crate::state::byte;
 use codec::octets::{joined16, joined32};
 use con_rec::{Mode, Parameter};
-use libc::STDIN_FILENO;
+use console::read_full;
 use replay_piece::types::{Settings, Shows};
 use replay_record::plan::Choices;
+use std::io::Read;
 
 #[derive(Clone, Copy)]
 pub struct Parameters {
@@ -73,9 +74,9 @@ fn modes_of(modes: u8) -> ModesRead {
 
 // Those at the head of a comparison's input, in eleven bytes: timeout present, timeout, retries present, retries, numbers of four bytes, low first;
 // and the modes. A byte that is not there counts as 0.
-pub(crate) fn read_parameters() -> ParametersRead {
+pub(crate) fn read_parameters(from: &mut impl Read) -> ParametersRead {
     let mut head = [0u8; 11];
-    io::read_full(STDIN_FILENO, &mut head);
+    read_full(from, &mut head);
     let timeout = parameter(&head, 0);
     let retries = parameter(&head, 5);
     let ModesRead::Mode(mode) = modes_of(head[10]) else {

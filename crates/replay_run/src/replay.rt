@@ -4,7 +4,7 @@ use crate::parameters::{Parameters, ParametersRead, plain, read_parameters};
 use crate::state::print_state;
 use codec::octets::part;
 use con_rec::numbers::at_most;
-use libc::{STDERR_FILENO, STDIN_FILENO, STDOUT_FILENO};
+use console::read_full;
 use man_table::types::{STORE_SIZE, SdoClientManager};
 use man_value::StorePart;
 use manager::types::OUTPUT_SIZE;
@@ -13,6 +13,8 @@ use replay_piece::replay::replay_piece;
 use replay_piece::types::{LastValue, Progress, Run, Shows};
 use replay_record::gather::GATHER_SIZE;
 use replay_record::record::RECORD_SIZE;
+use std::io;
+use std::io::Read;
 
 fn started() -> Run {
     Run {
@@ -36,54 +38,37 @@ fn started() -> Run {
 // The bytes that are read or written at a time: 2,048 records, and as much text.
 const BUFFER_SIZE: usize = 65536;
 
-// As much of the input as there is, up to a piece.
-fn fill(input: &mut [u8; BUFFER_SIZE]) -> usize {
-    io::read_full(STDIN_FILENO, input)
-}
-
 // The first bytes of a piece.
 fn first(b: &[u8; BUFFER_SIZE], n: usize) -> &[u8] {
     part(b, 0, n)
 }
 
-// Whether the first bytes of the text went out. A program has no exit status here, so a failure is told on standard error.
-fn write_out(text: &[u8; BUFFER_SIZE], n: usize) -> bool {
-    if io::write_all(STDOUT_FILENO, part(text, 0, n)) {
-        return true;
-    }
-    io::write_all(STDERR_FILENO, b"cannot write to standard output\n");
-    false
-}
-
-// All text goes out. Where it cannot, the run is as one that reads nothing more.
-fn written(run: Run, text: &[u8; BUFFER_SIZE]) -> Run {
+// All text goes out.
+fn written(rt: &impl Print, run: Run, text: &[u8; BUFFER_SIZE]) -> io::Result<Run> {
     let manager = run.manager;
     let progress = run.progress;
-    let mut read = progress.read;
-    if !write_out(text, progress.text) {
-        read = 0;
-    }
-    Run {
+    rt.write_all(first(text, progress.text))?;
+    Ok(Run {
         manager,
         progress: Progress {
             text: 0,
-            read,
             ..progress
         },
-    }
+    })
 }
 
 // The text goes out where the longest line might not fit any more.
-fn flushed(run: Run, text: &[u8; BUFFER_SIZE]) -> Run {
+fn flushed(rt: &impl Print, run: Run, text: &[u8; BUFFER_SIZE]) -> io::Result<Run> {
     let progress = run.progress;
     if progress.text <= BUFFER_SIZE - MOST_LINE {
-        return run;
+        return Ok(run);
     }
-    written(run, text)
+    written(rt, run, text)
 }
 
 // A record by itself, its line followed by the manager's state.
 fn one_shown(
+    rt: &impl Print,
     run: Run,
     p: Parameters,
     input: &[u8],
@@ -91,25 +76,23 @@ fn one_shown(
     gather: &mut [u8; GATHER_SIZE],
     output: &mut [u8; OUTPUT_SIZE],
     text: &mut [u8; BUFFER_SIZE],
-) -> Run {
+) -> io::Result<Run> {
     let settings = p.settings;
     let b = part(input, 0, at_most(input.len(), RECORD_SIZE));
     let after = replay_piece(run, settings, b, store, gather, output, text);
     let manager = after.manager;
     let progress = after.progress;
     if progress.read == 0 {
-        return after;
+        return Ok(after);
     }
-    let shown = written(after, text);
-    let now = shown.progress;
-    if now.read != 0 {
-        print_state(manager, progress, store);
-    }
-    shown
+    let shown = written(rt, after, text)?;
+    print_state(rt, manager, progress, store)?;
+    Ok(shown)
 }
 
 // Some records: as many as the text has room for, or one where states are shown.
 fn some(
+    rt: &impl Print,
     run: Run,
     p: Parameters,
     input: &[u8],
@@ -117,17 +100,18 @@ fn some(
     gather: &mut [u8; GATHER_SIZE],
     output: &mut [u8; OUTPUT_SIZE],
     text: &mut [u8; BUFFER_SIZE],
-) -> Run {
+) -> io::Result<Run> {
     let settings = p.settings;
     if p.states {
-        return one_shown(run, p, input, store, gather, output, text);
+        return one_shown(rt, run, p, input, store, gather, output, text);
     }
     let after = replay_piece(run, settings, input, store, gather, output, text);
-    flushed(after, text)
+    flushed(rt, after, text)
 }
 
 // The records of a piece.
 fn piece_by(
+    rt: &impl Print,
     run: Run,
     p: Parameters,
     input: &[u8],
@@ -135,14 +119,14 @@ fn piece_by(
     gather: &mut [u8; GATHER_SIZE],
     output: &mut [u8; OUTPUT_SIZE],
     text: &mut [u8; BUFFER_SIZE],
-) -> Run {
+) -> io::Result<Run> {
     let mut r = run;
     let mut at: usize = 0;
     while at < input.len() {
         let left = input.len() - at;
-        r = some(r, p, part(input, at, left), store, gather, output, text);
+        r = some(rt, r, p, part(input, at, left), store, gather, output, text)?;
         let progress = r.progress;
-        // none is read where 65,535 were, or the text could not be written
+        // none is read where 65,535 were
         if progress.read == 0 {
             break;
         }
@@ -151,21 +135,22 @@ fn piece_by(
         }
         at += progress.read;
     }
-    r
+    Ok(r)
 }
 
-fn run_by(p: Parameters) {
+// The records of the input, piece by piece, as far as it can be read. What cannot be written ends the run.
+fn run_by(rt: &impl Print, from: &mut impl Read, p: Parameters) -> io::Result<()> {
     let mut store = [0u8; STORE_SIZE];
     let mut gather = [0u8; GATHER_SIZE];
     let mut output = [0u8; OUTPUT_SIZE];
-    let mut input = io::large_buffer();
-    let mut text = io::large_buffer();
+    let mut input = [0u8; BUFFER_SIZE];
+    let mut text = [0u8; BUFFER_SIZE];
     let mut run = started();
     // 65,535 records lie in 32 pieces
-    let mut pieces: usize = 0;
-    while pieces < 32 {
-        let n = fill(&mut input);
+    for _ in 0..32 {
+        let n = read_full(from, &mut input);
         run = piece_by(
+            rt,
             run,
             p,
             first(&input, n),
@@ -173,42 +158,45 @@ fn run_by(p: Parameters) {
             &mut gather,
             &mut output,
             &mut text,
-        );
+        )?;
         let progress = run.progress;
         if n < BUFFER_SIZE || progress.read == 0 {
             break;
         }
-        pieces += 1;
     }
-    let last = run.progress;
-    write_out(&text, last.text);
+    written(rt, run, &text)?;
+    Ok(())
 }
 
-// Replays standard input, in repository mode; timeout and retries are absent.
-pub fn replay()
+// A run. That its text cannot be written is told on standard error.
+fn told_by(rt: &(impl Print + Eprint), from: &mut impl Read, p: Parameters) -> io::Result<()> {
+    if run_by(rt, from, p).is_err() {
+        return rt.eprintln("cannot write to standard output");
+    }
+    Ok(())
+}
+
+// Replays the input, in repository mode; timeout and retries are absent.
+pub fn replay(rt: &(impl Print + Eprint), from: &mut impl Read) -> io::Result<()>
     ensures { Unit {0} }
 {
-    run_by(plain(Shows::Lines));
+    told_by(rt, from, plain(Shows::Lines))
 }
 
 // The value of each read that ends Complete, of the same records.
-pub fn values()
+pub fn values(rt: &(impl Print + Eprint), from: &mut impl Read) -> io::Result<()>
     ensures { Unit {0} }
 {
-    run_by(plain(Shows::Values));
+    told_by(rt, from, plain(Shows::Values))
 }
 
-// Replays standard input with the parameters at its head, and shows the manager's state after each record. Where the byte of modes has
+// Replays the input with the parameters at its head, and shows the manager's state after each record. Where the byte of modes has
 // bits that mean nothing, no record is read.
-pub fn replay_states()
+pub fn replay_states(rt: &(impl Print + Eprint), from: &mut impl Read) -> io::Result<()>
     ensures { Unit {0} }
 {
-    let ParametersRead::Parameters(p) = read_parameters() else {
-        io::write_all(
-            STDERR_FILENO,
-            b"the eleventh byte ahead of the records must be 0 or 1\n",
-        );
-        return;
+    let ParametersRead::Parameters(p) = read_parameters(from) else {
+        return rt.eprintln("the eleventh byte ahead of the records must be 0 or 1");
     };
-    run_by(p);
+    told_by(rt, from, p)
 }

@@ -8,6 +8,7 @@ use man_table::types::SdoClientManager;
 use man_value::value_in;
 use manager::next::next_action_time;
 use replay_piece::types::Progress;
+use std::io;
 
 pub(crate) fn byte(b: &[u8], at: usize) -> u8 {
     if at < b.len() {
@@ -29,26 +30,24 @@ fn wide64(x: u32) -> u64
 }
 
 // A number, with a colon ahead of it.
-fn next(n: u64) {
-    text(b":");
-    number(n);
+fn next(rt: &impl Print, n: u64) -> io::Result<()> {
+    text(rt, b":")?;
+    number(rt, n)
 }
 
-fn deadline(d: Deadline) {
+fn deadline(rt: &impl Print, d: Deadline) -> io::Result<()> {
     match d {
-        Deadline::At(t) => number(t),
-        Deadline::Never => text(b"-"),
+        Deadline::At(t) => number(rt, t),
+        Deadline::Never => text(rt, b"-"),
     }
 }
 
 // FNV-1a over 32 bits.
 fn sum(b: &[u8]) -> u64 {
     let mut h: u32 = 2166136261;
-    let mut i: usize = 0;
-    while i < b.len() {
-        let x = h ^ wide32(b[i]);
+    for octet in b {
+        let x = h ^ wide32(*octet);
         h = (wide64(x) * 16777619 % 4294967296) as u32;
-        i += 1;
     }
     wide64(h)
 }
@@ -75,61 +74,63 @@ fn sent_so_far(c: SdoClientConnection) -> u64 {
 }
 
 // node:state:transaction:send:last:deadline:retries:offset:uploaded:sum
-fn connection(c: SdoClientConnection, store: &[u8]) {
+fn connection(rt: &impl Print, c: SdoClientConnection, store: &[u8]) -> io::Result<()> {
     let state = c.state;
     let waiting = c.waiting;
     let until = waiting.deadline;
     let job = c.job;
-    number(c.target_node_id as u64);
-    next(state_number(state));
-    next(c.transaction_id as u64);
-    next(c.send_sequence_number as u64);
-    next(c.last_received_sequence_number as u64);
-    text(b":");
-    deadline(until);
-    next(waiting.retries_left as u64);
-    next(sent_so_far(c));
-    next(job.uploaded as u64);
-    next(sum(part(store, c.room, job.uploaded)));
+    number(rt, c.target_node_id as u64)?;
+    next(rt, state_number(state))?;
+    next(rt, c.transaction_id as u64)?;
+    next(rt, c.send_sequence_number as u64)?;
+    next(rt, c.last_received_sequence_number as u64)?;
+    text(rt, b":")?;
+    deadline(rt, until)?;
+    next(rt, waiting.retries_left as u64)?;
+    next(rt, sent_so_far(c))?;
+    next(rt, job.uploaded as u64)?;
+    next(rt, sum(part(store, c.room, job.uploaded)))
 }
 
-fn held(m: SdoClientManager, store: &[u8]) {
+fn held(rt: &impl Print, m: SdoClientManager, store: &[u8]) -> io::Result<()> {
     let list = m.connections;
     if m.count == 0 {
-        text(b"-");
-        return;
+        return text(rt, b"-");
     }
-    connection(list[0], store);
-    let mut i: usize = 1;
-    while i < 8 {
+    connection(rt, list[0], store)?;
+    for i in 1..8 {
         if m.count <= i {
-            return;
+            break;
         }
-        text(b",");
-        connection(list[i], store);
-        i += 1;
+        text(rt, b",")?;
+        connection(rt, list[i], store)?;
     }
+    Ok(())
 }
 
 // What a read brought that this record ended Complete: how many bytes, and their sum.
-fn read(p: Progress, store: &[u8]) {
+fn read(rt: &impl Print, p: Progress, store: &[u8]) -> io::Result<()> {
     let last = p.value;
     if last.record != p.number {
-        text(b"-");
-        return;
+        return text(rt, b"-");
     }
     let at = last.at;
     let value = value_in(store, at);
-    number(value.len() as u64);
-    next(sum(value));
+    number(rt, value.len() as u64)?;
+    next(rt, sum(value))
 }
 
-pub(crate) fn print_state(m: SdoClientManager, p: Progress, store: &[u8]) {
-    text(b"= ");
-    deadline(next_action_time(m));
-    text(b" ");
-    held(m, store);
-    text(b" ");
-    read(p, store);
-    text(b"\n");
+pub(crate) fn print_state(
+    rt: &impl Print,
+    m: SdoClientManager,
+    p: Progress,
+    store: &[u8],
+) -> io::Result<()> {
+    text(rt, b"= ")?;
+    deadline(rt, next_action_time(m))?;
+    text(rt, b" ")?;
+    held(rt, m, store)?;
+    text(rt, b" ")?;
+    read(rt, p, store)?;
+    text(rt, b"\n")
 }

@@ -1,69 +1,51 @@
 // The repair of one DCF, for a pipe.
-use crate::tell::{tell, tell_refusal};
+ghost use Rattle.std.specs.Prelude.{◌≤◌, IfOk, length};
+
+use crate::tell::Told;
 use codec::octets::part;
+use codec::refusal::refusal_number;
 use codec_salvage::{MOST_SALVAGED, SalvageAnswer, Salvaged, salvage};
-use libc::{STDERR_FILENO, STDIN_FILENO, STDOUT_FILENO};
+use std::io;
+use std::io::Read;
 
 // With one byte more than the longest DCF it is known that there are more.
 const INPUT_SIZE: usize = 4097;
 
-// How many bytes were read, or that a read failed. A DCF of which only a part was read looks like one that lost its tail, so it is not repaired.
-#[derive(Clone, Copy)]
-enum Input {
-    Bytes(usize),
-    Failed,
-}
-
-// One read more, behind the first n bytes: how many there are then.
-fn read_more(input: &mut [u8], n: usize) -> Input {
-    if input.len() <= n {
-        return Input::Bytes(n);
-    }
-    let got = libc::read(STDIN_FILENO, &mut input[n..]);
-    if got < 0 {
-        return Input::Failed;
-    }
-    Input::Bytes(n + io::count(got, &input[n..]))
-}
-
-// Reads until the buffer is full or the input ends. Each read but the last brings a byte at least.
-fn read_input(input: &mut [u8]) -> Input {
+// Reads until the buffer is full or the input ends, and answers how many bytes there are then. A DCF of which only a part was read looks like one that
+// lost its tail, so a read that fails is an error here.
+fn read_input(from: &mut impl Read, input: &mut [u8]) -> io::Result<usize>
+    ensures { IfOk result (λ n. n ≤ length input.new) }
+{
     let mut n: usize = 0;
-    let mut reads: usize = 0;
-    while reads < INPUT_SIZE {
-        let Input::Bytes(after) = read_more(input, n) else {
-            return Input::Failed;
-        };
-        if after == n {
+    while n < input.len() {
+        let got = from.read(&mut input[n..])?;
+        if got == 0 {
             break;
         }
-        n = after;
-        reads += 1;
+        n += got;
     }
-    Input::Bytes(n)
+    Ok(n)
 }
 
-// The repaired DCF, and what is told of it where it went out. A program has no exit status here, so a failure is told instead.
-fn hand_out(told: Salvaged, output: &[u8]) {
-    if io::write_all(STDOUT_FILENO, part(output, 0, told.length)) {
-        tell(STDERR_FILENO, told);
-        return;
+// The repaired DCF, and what is told of it where it went out.
+fn hand_out(rt: &(impl Print + Eprint), told: Salvaged, output: &[u8]) -> io::Result<()> {
+    if rt.write_all(part(output, 0, told.length)).is_err() {
+        return rt.eprintln("cannot write to standard output");
     }
-    io::write_all(STDERR_FILENO, b"cannot write to standard output\n");
+    rt.eprintln(Told(told))
 }
 
-// Repairs the DCF on standard input. The repaired one goes to standard output, what is told of it to standard error; a refusal goes there alone.
-pub fn salvage_one()
+// Repairs the DCF that is read, the whole input. The repaired one goes to standard output, what is told of it to standard error; a refusal goes there alone.
+pub fn salvage_one(rt: &(impl Print + Eprint), from: &mut impl Read) -> io::Result<()>
     ensures { Unit {0} }
 {
     let mut input = [0u8; INPUT_SIZE];
     let mut output = [0u8; MOST_SALVAGED];
-    let Input::Bytes(n) = read_input(&mut input) else {
-        io::write_all(STDERR_FILENO, b"cannot read standard input\n");
-        return;
+    let Ok(n) = read_input(from, &mut input) else {
+        return rt.eprintln("cannot read standard input");
     };
     match salvage(part(&input, 0, n), &mut output) {
-        SalvageAnswer::Salvaged(told) => hand_out(told, &output),
-        SalvageAnswer::Refused(r) => tell_refusal(STDERR_FILENO, r),
+        SalvageAnswer::Salvaged(told) => hand_out(rt, told, &output),
+        SalvageAnswer::Refused(r) => rt.eprintln(refusal_number(r)),
     }
 }

@@ -1,30 +1,30 @@
 // What is told of a repair, in a line.
-use codec::refusal::{Refusal, refusal_number};
 use codec_salvage::{FirstDropped, Salvaged};
+use std::fmt;
 
-fn first_dropped(fd: i32, first: FirstDropped) {
-    let FirstDropped::At(n) = first else {
-        io::write_all(fd, b"-");
-        return;
-    };
-    io::print_decimal(fd, n as u64);
+#[derive(Clone, Copy)]
+struct First(FirstDropped);
+
+impl fmt::Display for First {
+    fn fmt<W: fmt::Write>(&self, f: &mut fmt::Formatter<W>) -> fmt::Result {
+        match self.0 {
+            FirstDropped::At(n) => write!(f, "{n}"),
+            FirstDropped::NoneDropped => write!(f, "-"),
+        }
+    }
 }
 
 // Old count, new count, bytes dropped, and the offset of the first of them or `-`.
-pub(crate) fn tell(fd: i32, told: Salvaged) {
-    let first = told.first_dropped;
-    io::print_decimal(fd, told.old_count as u64);
-    io::write_all(fd, b" ");
-    io::print_decimal(fd, told.new_count as u64);
-    io::write_all(fd, b" ");
-    io::print_decimal(fd, told.dropped as u64);
-    io::write_all(fd, b" ");
-    first_dropped(fd, first);
-    io::write_all(fd, b"\n");
-}
+#[derive(Clone, Copy)]
+pub(crate) struct Told(pub Salvaged);
 
-// A refusal's number alone.
-pub(crate) fn tell_refusal(fd: i32, r: Refusal) {
-    io::print_decimal(fd, refusal_number(r) as u64);
-    io::write_all(fd, b"\n");
+impl fmt::Display for Told {
+    fn fmt<W: fmt::Write>(&self, f: &mut fmt::Formatter<W>) -> fmt::Result {
+        let told = self.0;
+        let old_count = told.old_count;
+        let new_count = told.new_count;
+        let dropped = told.dropped;
+        let first = First(told.first_dropped);
+        write!(f, "{old_count} {new_count} {dropped} {first}")
+    }
 }

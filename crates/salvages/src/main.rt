@@ -1,5 +1,8 @@
 // Salvages: the repair of many DCFs, for comparisons. Its stdin and stdout beside src/ are a sample of the repository's answers.
 #![tactic(auto)]
-fn main() {
-    salvage_run::many::salvage_many();
+
+use std::io;
+
+fn main(rt: HostRuntime) -> io::Result<()> {
+    salvage_run::many::salvage_many(&rt, &mut rt.stdin())
 }

@@ -21,7 +21,7 @@ use Rattle.con_reply.specs.Consistent.{Consistent, WaitsIn, awaiting, is_closed,
 use Rattle.con_reply.specs.Delivery.{is_opening}
 use Rattle.con_reply.specs.Reply.{cleared, replied, reply_in, reply_of, room_after}
 use Rattle.connection.proofs.TickLaws.{Ticked, tick_leaves}
-use Rattle.connection.proofs.TurnView.{AskView, Given, TickView, again, ask_view, early, ends, first, gives, late, later, never, next as next-part, opening, over, reading, silent, tick_view}
+use Rattle.connection.proofs.TurnView.{AskView, Given, TickView, again, ask_view, early, ends, first, gives, late, later, never, next as next_part, opening, over, reading, silent, tick_view}
 use Rattle.connection.specs.Ask.{ask_of}
 use Rattle.connection.specs.Start.{is_idle}
 use Rattle.connection.specs.Tick.{tick_of}
@@ -45,6 +45,7 @@ use Rattle.theorems.specs.Types.{
   SdoClientConnectionState as State,
   SdoCommand,
   SdoJob,
+  Sends,
   SequenceLayerHeader,
   Stepped,
   Taken,
@@ -53,6 +54,7 @@ use Rattle.theorems.specs.Types.{
 use Rattle.theorems.proofs.AllReached.{event_sound}
 use Rattle.theorems.proofs.Cases.{not_refused}
 use Rattle.theorems.proofs.JobStarts.{began}
+use Rattle.theorems.proofs.ConnectionAfter.{after_giving, after_repeating}
 use Rattle.theorems.proofs.NodeView.{Apart, NodeView, Seat, answers, begins, bytes_in, bytes_of, gave_by, idles, rests, steps, unknown}
 use Rattle.theorems.proofs.NodeSees.{event_view, held_is}
 use Rattle.theorems.proofs.Tracked.{held_after}
@@ -88,7 +90,7 @@ module _ (entries : List Bytes) (Runs : Running) (Ends : Ending) (kept : Kept en
   acknowledges c (opening f e) = refl
   acknowledges c (first f e l) = refl
   acknowledges c (reading f e l p) = refl
-  acknowledges c (next-part f e) = refl
+  acknowledges c (next_part f e) = refl
   acknowledges c (later f e l) = refl
 
   module _ (s : Story) (c : Connection) (room : Bytes) (on : On s c room) where
@@ -101,7 +103,7 @@ module _ (entries : List Bytes) (Runs : Running) (Ends : Ending) (kept : Kept en
         go : {x : Stepped} → AskView c n x → StepGoes Turn.Asking s room x
         go (silent w) = same
         go (ends f e l p) = kept.finishes s room c e l p on.is
-        go (gives {o} g h) = stay _ room _ on.runs (refl, acknowledges c g) (kept.gives s room c g on.is)
+        go (gives {s = x} {sent} {o} g h) = stay (asked s (gave_by room (Sends.Gives o))) room (after_giving c n x sent o) on.runs (refl, acknowledges c g) (kept.gives s room c g on.is)
         go (late g h) = tt
 
     tick_goes : (n : Now) → StepGoes Turn.Ticking s room (tick_of c n)
@@ -112,7 +114,7 @@ module _ (entries : List Bytes) (Runs : Running) (Ends : Ending) (kept : Kept en
         go (early e h) l = same
         go (over e h r) l =
             subst (Ends s room Reason.Timeout) (sym l.1) (kept.breaks s room c.state c.job on.is Reason.Timeout tt)
-        go (again e h r k) l = stay s room _ on.runs on.awaits on.is
+        go (again e h r k) l = stay s room (after_repeating c n) on.runs on.awaits on.is
         go (late e h r k) l = tt
 
     -- ---- reply

@@ -16,7 +16,7 @@ use Rattle.con_reply.proofs.ReplyCases.{in_by}
 use Rattle.con_reply.specs.Consistent.{LoadsIn, awaiting, is_closed}
 use Rattle.con_reply.specs.Delivery.{is_opening}
 use Rattle.con_reply.specs.Reply.{cleared, reply_in, reply_next, reply_sent}
-use Rattle.connection.proofs.TurnView.{Given, gives}
+use Rattle.connection.proofs.TurnView.{Given}
 use Rattle.connection.specs.Ask.{finish, with_offset}
 use Rattle.connection.specs.Start.{is_idle}
 use Rattle.theorems.specs.Run.{next}

@@ -1,11 +1,10 @@
 -- A job from a start that was taken, after any calls: what the start has begun, and what following it brings.
 use Prim.Native.Nat.{ℕ}
-use mathlib.Core.Path.{◌≡◌, refl, subst}
+use mathlib.Core.Path.{◌≡◌, ◌∙◌, refl, subst}
 use mathlib.Core.List.{List, []}
 use mathlib.Core.Logic.{inl, inr}
 use Rattle.codec.specs.Bytes.{Bytes}
-use Rattle.con_reply.proofs.JobCarried.{begun}
-use Rattle.manager.specs.Calls.{After, Call, Job, job_room, replies, start_job, starts, turns}
+use Rattle.manager.specs.Calls.{After, Call, Job, called, job_room, replies, start_job, starts, turns}
 use Rattle.theorems.specs.Quiet.{Holding, connection, holding}
 use Rattle.theorems.specs.Run.{Event, Host, made, next, reached, run, starting}
 use Rattle.theorems.specs.Sound.{Reached, Sound}
@@ -55,6 +54,11 @@ module _ (node : ℕ) where
   view_starts (steps e) = tt
   view_starts (answers e) = tt
 
+-- what a start is answered is what its call answers
+answered : (h : Host) (node : ℕ) (job : Job) (now : Now)
+    → (called h.manager h.store [] (starts node job now)).done.answer ≡ (made h (starting node job now)).done.answer
+answered h node job now = refl
+
 -- a start that was taken, after any calls
 module _ (lent : Bytes) (earlier : List Event) (node : ℕ) (job : Job) (now : Now) where
   abbrev pub host : Host
@@ -76,7 +80,8 @@ module _ (lent : Bytes) (earlier : List Event) (node : ℕ) (job : Job) (now : N
   module _ (e : start.done.answer ≡ Answer.Nothing) where
     pub started : Started job now (holding after.manager after.store node)
     started =
-        subst (λ (a : Answer). StartsIf node (starts node job now) a (holding after.manager after.store node)) e
+        subst (λ (a : Answer). StartsIf node (starts node job now) a (holding after.manager after.store node))
+        (answered host node job now ∙ e)
         (view_starts node (call_view host.manager host.store before_sound node [] (starts node job now))) refl
 
     -- nothing waits at the start

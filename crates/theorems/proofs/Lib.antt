@@ -3,6 +3,7 @@ pub mod AllReached
 pub mod AnyJob
 pub mod Cases
 pub mod Checks
+pub mod ConnectionAfter
 pub mod EdgeTable
 pub mod EndsReported
 pub mod Followed

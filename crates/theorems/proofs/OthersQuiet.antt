@@ -22,7 +22,7 @@ use Rattle.theorems.specs.Quiet.{ForAnother, Holding, QuietOthers, connection, h
 use Rattle.theorems.specs.Run.{Host, Lends, another, next, own, reached}
 use Rattle.theorems.specs.Sound.{All, Reached, Sane, Slotted, Sound}
 use Rattle.theorems.specs.Story.{end_for, gave_to, none}
-use Rattle.theorems.specs.Types.{Answer, EndFound, Taken, Now, Outcome, Reason, SdoClientConnection as Connection, SdoClientManager as Manager, SdoCommand, SequenceLayerHeader}
+use Rattle.theorems.specs.Types.{EndFound, Taken, Now, Outcome, Reason, SdoClientConnection as Connection, SdoClientManager as Manager, SdoCommand, SequenceLayerHeader}
 use Rattle.theorems.proofs.AllLists.{all_at, all_by, all_set}
 use Rattle.manager.proofs.WalkCalls.{live_table}
 use Rattle.theorems.proofs.Cases.{Absent, At, Of, Shown, gives_none, reply_by_lem}

@@ -17,7 +17,6 @@ use Rattle.man_table.specs.Table.{blank, live, room_in}
 use Rattle.theorems.specs.Run.{Host, Lends, another, made, own, reached}
 use Rattle.theorems.specs.Sizes.{IsTurn, Sizes}
 use Rattle.theorems.specs.Sound.{Reached, Sound}
-use Rattle.theorems.specs.Story.{command}
 use Rattle.theorems.specs.Types.{Answer, Outgoing, SdoClientManager as Manager}
 use Rattle.theorems.proofs.AllReached.{all_sound}
 use Rattle.theorems.proofs.Cases.{Of, Shown, reply_by_lem, turn_by}

@@ -1,6 +1,6 @@
 -- In published mode no Complete that brings bytes follows an Expedited. What is kept: where the last command was Expedited and a transfer is under way, all
 -- of it was sent, so that a Complete has nothing left to bring.
-use Prim.Native.Nat.{ℕ, ◌-◌, ◌≤◌}
+use Prim.Native.Nat.{ℕ, ◌+◌, ◌-◌, ◌≤◌}
 use native.Mathlib.Omega.{arith}
 use mathlib.Core.Path.{◌≡◌, refl, sym, ap, subst, ◌∙◌}
 use mathlib.Core.Bool.{Bool, true, false, true≢false}
@@ -14,7 +14,7 @@ use Rattle.con_rec.proofs.PublishedParts.{expedited_within, first_not_complete, 
 use Rattle.con_rec.specs.Parts.{first_kind, limit, part_length, total}
 use Rattle.con_reply.proofs.ReplyCases.{in_by}
 use Rattle.con_reply.specs.Consistent.{is_downloading}
-use Rattle.con_reply.specs.Reply.{reply_in, reply_next, reply_sent}
+use Rattle.con_reply.specs.Reply.{in_state, reply_in, reply_next, reply_sent, with_bytes}
 use Rattle.con_reply.specs.Sent.{Sent, sent_of}
 use Rattle.connection.proofs.TurnView.{Given, first, later, next, opening, reading}
 use Rattle.connection.specs.Ask.{with_offset}
@@ -157,7 +157,7 @@ module _ (entries : List Bytes) where
 
     next_left : (x : DcfStep) → Leaves Runs-so Ends-so t room (reply_next x c)
     next_left (DcfStep.Entry index sub at len more) =
-        on room _ r (elsewhere refl refl h.published empty)
+        on room (reply_next (DcfStep.Entry index sub at len more) c) r (elsewhere refl refl h.published empty)
     next_left DcfStep.End = empty
     next_left DcfStep.Unreadable = empty
 
@@ -173,12 +173,12 @@ module _ (entries : List Bytes) where
         in_by c (length payload) room (Decides Runs-so Ends-so t payload room)
         (record {
           out_of_place = empty;
-          opened = λ e. on room _ r (elsewhere refl refl h.published empty);
+          opened = λ e. on room (in_state c State.Established) r (elsewhere refl refl h.published empty);
           refused = empty;
           sent = λ e. sent_left c.job.loaded;
-          uploads = λ e. on room _ r (elsewhere refl refl h.published empty);
+          uploads = λ e. on room (in_state (with_bytes c 0) State.UploadInProgress) r (elsewhere refl refl h.published empty);
           bad = empty;
-          more = λ f from w. on (placed room from payload) _ r
+          more = λ f from w. on (placed room from payload) (with_bytes c (from + length payload)) r
               (record { published = h.published; works = h.works; follows = empty; ready = stays.ready });
           last = λ f from w. empty;
           full = λ f. tt;

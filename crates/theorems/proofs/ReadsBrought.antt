@@ -9,8 +9,7 @@ use Rattle.theorems.specs.Figures.{AtEnd}
 use Rattle.theorems.specs.Run.{Event, Host, run}
 use Rattle.theorems.specs.Story.{Log, follow, untold}
 use Rattle.theorems.specs.Types.{Answer, Mode, Now, Outcome, Taken}
-use Rattle.theorems.proofs.Followed.{Brings, Ended}
-use Rattle.theorems.proofs.JobKept.{Running}
+use Rattle.theorems.proofs.Followed.{Brings}
 use Rattle.theorems.proofs.JobStarted.{after, brings, start, started}
 use Rattle.theorems.proofs.JobStarts.{began}
 use Rattle.theorems.proofs.ReadsKept.{ReadsEnd, ReadsRun, reads_kept}

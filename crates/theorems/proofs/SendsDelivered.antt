@@ -10,7 +10,7 @@ use Rattle.codec.specs.declared.dcf.DcfCursor.{DcfCursor}
 use Rattle.con_reply.proofs.JobCarried.{Aim, Carried, beginning, begun, self_call_never}
 use Rattle.con_reply.proofs.StartCarries.{Begun, aim_of, begun_job_lem}
 use Rattle.con_reply.specs.Delivery.{For, ForEnd, pieces}
-use Rattle.con_reply.specs.Jobs.{Job as Sending, bytes_of, counted, entries_of, loads as sendsDcf, start_of, writes as sendsWrite}
+use Rattle.con_reply.specs.Jobs.{Job as Sending, bytes_of, counted, entries_of, loads as sends_dcf, start_of, writes as sends_write}
 use Rattle.manager.specs.Calls.{job_room, start_job}
 use Rattle.theorems.specs.Demand.{Demand3, job_of}
 use Rattle.theorems.specs.Figures.{AtEnd}
@@ -26,19 +26,18 @@ use Rattle.theorems.specs.Types.{
   SdoClientConnection as Connection,
   SdoClientConnectionState as State,
 }
-use Rattle.theorems.proofs.Followed.{Brings, Ended}
-use Rattle.theorems.proofs.JobKept.{Running}
+use Rattle.theorems.proofs.Followed.{Brings}
 use Rattle.theorems.proofs.SendsKept.{SendsEnd, SendsRun, sends_kept}
 use Rattle.theorems.proofs.JobStarted.{after, brings, running, start, started}
 
 -- ---- a job that sends
 start_of_lem : (job : Sending) (c : Connection) (t : ℕ) (n : Now) (room : Bytes) → start_job (job_of job) c t n room ≡ start_of c t n job room
-start_of_lem (sendsWrite mode index sub bytes) c t n room = refl
-start_of_lem (sendsDcf mode dcf) c t n room = refl
+start_of_lem (sends_write mode index sub bytes) c t n room = refl
+start_of_lem (sends_dcf mode dcf) c t n room = refl
 
 room_of : (job : Sending) (room : Bytes) → job_room (job_of job) room ≡ placed room 0 (bytes_of job)
-room_of (sendsWrite mode index sub bytes) room = refl
-room_of (sendsDcf mode dcf) room = refl
+room_of (sends_write mode index sub bytes) room = refl
+room_of (sends_dcf mode dcf) room = refl
 
 -- where nothing was sent nothing is delivered
 none_yet : {a : Aim} {s : State} {t : LoadedTransfer} {offset : ℕ} {k : DcfCursor} {delivered : ℕ} {read : PendingRead} {size : ℕ}

@@ -7,7 +7,7 @@ use lib.ListN.{length, set, length-set}
 use Rattle.codec.specs.Bytes.{Bytes}
 use Rattle.connection.specs.Ask.{ask_of}
 use Rattle.con_reply.specs.Consistent.{Consistent}
-use Rattle.con_reply.specs.Jobs.{loads as sendsDcf, writes as sendsWrite}
+use Rattle.con_reply.specs.Jobs.{loads as sends_dcf, writes as sends_write}
 use Rattle.con_reply.specs.Reply.{replied, reply_of, room_after}
 use Rattle.connection.specs.Tick.{tick_of}
 use Rattle.con_reply.proofs.ReplySound.{reply_sound as replied-sound}
@@ -40,9 +40,9 @@ use Rattle.theorems.proofs.WalkSteps.{StepBy, WalkBy, same_self, turn_same, walk
 -- a job that starts is consistent with its bytes in the room
 pub started_sound : (job : Job) (c d : Connection) (t : ℕ) (n : Now) (room : Bytes) → start_job job c t n room ≡ Taken.Connection d
     → Consistent d (job_room job room)
-started_sound (writes mode index sub bytes) c d t n room e = (begun_job_lem c t n (sendsWrite mode index sub bytes) room d e).consistent
+started_sound (writes mode index sub bytes) c d t n room e = (begun_job_lem c t n (sends_write mode index sub bytes) room d e).consistent
 started_sound (reads mode index sub) c d t n room e = read_sound c t n mode index sub room d e
-started_sound (loads mode dcf) c d t n room e = (begun_job_lem c t n (sendsDcf mode dcf) room d e).consistent
+started_sound (loads mode dcf) c d t n room e = (begun_job_lem c t n (sends_dcf mode dcf) room d e).consistent
 
 -- a step keeps node and room, and what is fit
 abbrev Keeps : Bytes → Connection → Connection → Type 0

@@ -16,7 +16,7 @@ use Rattle.con_reply.specs.Consistent.{Consistent}
 use Rattle.con_reply.proofs.JobCarried.{Aim}
 use Rattle.con_reply.proofs.ReplySound.{reply_sound}
 use Rattle.con_reply.proofs.StoresWithin.{replied_room}
-use Rattle.con_reply.specs.Jobs.{Job as Sending, entries_of, loads as sendsDcf, writes as sendsWrite}
+use Rattle.con_reply.specs.Jobs.{Job as Sending, entries_of, loads as sends_dcf, writes as sends_write}
 use Rattle.connection.proofs.TurnView.{AskView, TickView, again, ask_view, early, ends, gives, late, never, over, silent, tick_view}
 use Rattle.connection.specs.Ask.{ask_of}
 use Rattle.connection.specs.Tick.{tick_of}
@@ -50,6 +50,7 @@ use Rattle.theorems.specs.Types.{
   Turn,
 }
 use Rattle.theorems.specs.Values.{Concerns, EndsComplete, IsComplete, ObjectNamed, Values, ValuesAlone, ValuesWithin, bytes, due_by, due_for, handed, nothing}
+use Rattle.theorems.proofs.ConnectionAfter.{after_giving, after_repeating}
 use Rattle.theorems.proofs.AllReached.{all_sound, run_sound}
 use Rattle.theorems.proofs.Cases.{Shown, not_refused, turn_by}
 use Rattle.theorems.proofs.Followed.{On, OnBy, Onward, Still, reply_onward}
@@ -166,8 +167,8 @@ module _ (job : Job) (entries : List Bytes) (Runs : Running) (Ends : Ending) (ke
 
 -- ---- a write and a DCF have no value
 none_due : (job : Sending) (e : EndFound) (value : Bytes) → due_for (job_of job) e value ≡ nothing
-none_due (sendsWrite mode index sub content) e value = refl
-none_due (sendsDcf mode dcf) e value = refl
+none_due (sends_write mode index sub content) e value = refl
+none_due (sends_dcf mode dcf) e value = refl
 
 none_brought : (d : Connection) → d.job.pending_read ≡ PendingRead.NoRead → NoValue (value_of d)
 none_brought d p store = go d.outcome
@@ -199,7 +200,7 @@ module _ (mode : Mode) (index sub : ℕ) where
         go : {x : Stepped} → AskView c n x → Due x
         go (silent w) = goes c on.runs
         go (ends f e l p) = absurd (reads_no (sym on.is.pending ∙ p))
-        go (gives g h) = goes _ on.runs
+        go (gives {s = x} {sent} {o} g h) = goes (after_giving c n x sent o) on.runs
         go (late g h) = tt
 
     tick_due_lem : Due (tick_of c n)
@@ -210,7 +211,7 @@ module _ (mode : Mode) (index sub : ℕ) where
         go (never e) = goes c on.runs
         go (early e h) = goes c on.runs
         go (over e h r) = λ value. refl
-        go (again e h r k) = goes _ on.runs
+        go (again e h r k) = goes (after_repeating c n) on.runs
         go (late e h r k) = tt
 
   turn_due : (s : Story) (c : Connection) (room : Bytes) → Going s c room → (t : Turn) (n : Now) (d : Connection) (x : Sends)
@@ -280,8 +281,8 @@ values lent earlier node (reads mode index sub) now later x e r same =
 
     log : Log
     log = follow [] node untold (after lent earlier node (reads mode index sub) now) later
-values lent earlier node (writes mode index sub content) now later x e r same = sends_hands lent earlier node (sendsWrite mode index sub content) now later x e r same
-values lent earlier node (loads mode dcf) now later x e r same = sends_hands lent earlier node (sendsDcf mode dcf) now later x e r same
+values lent earlier node (writes mode index sub content) now later x e r same = sends_hands lent earlier node (sends_write mode index sub content) now later x e r same
+values lent earlier node (loads mode dcf) now later x e r same = sends_hands lent earlier node (sends_dcf mode dcf) now later x e r same
 
 -- ---- the object that the manager names
 found_there : (node : ℕ) (store : Bytes) (c : Connection) (room : Bytes) (l : List Connection) → holding_in node l store ≡ connection c room

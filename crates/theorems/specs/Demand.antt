@@ -5,15 +5,15 @@ use Rattle.std.specs.Prelude.{ℕ, ◌≡◌, List}
 use Rattle.codec.specs.Bytes.{Bytes}
 use Rattle.con_reply.specs.Delivery.{For, pieces}
 use Rattle.con_reply.specs.Jobs.{Job as Sending, counted, entries_of, loads, writes}
-use Rattle.manager.specs.Calls.{Job, loads as startsDcf, writes as startsWrite}
+use Rattle.manager.specs.Calls.{Job, loads as starts_dcf, writes as starts_write}
 use Rattle.theorems.specs.Run.{Event, Host, made, next, reached, starting}
 use Rattle.theorems.specs.Story.{Log, follow, untold}
 use Rattle.theorems.specs.Types.{Answer, Now}
 
 -- a job that sends, as the start of the manager takes it
 abbrev pub job_of : Sending → Job
-job_of (writes mode index sub bytes) = startsWrite mode index sub bytes
-job_of (loads mode dcf) = startsDcf mode dcf
+job_of (writes mode index sub bytes) = starts_write mode index sub bytes
+job_of (loads mode dcf) = starts_dcf mode dcf
 
 -- of any calls from a new manager, a start of a write or a DCF that is taken, and any calls and replies after it
 unfoldable pub Demand3 : Type 0

@@ -1,15 +1,14 @@
 // Values: a line for each read of a trace that ends Complete. Its stdin and stdout beside src/ are a sample of the repository's answers.
 #![tactic(auto)]
-use libc::STDERR_FILENO;
 
-fn main() {
+use std::env::{Env, FillError};
+use std::io;
+
+fn main(rt: HostRuntime) -> io::Result<()> {
     // a file's name is no input, and without this values would wait for records
-    if 1 < os::arg_count() {
-        io::write_all(
-            STDERR_FILENO,
-            b"values takes no arguments: records on standard input\n",
-        );
-        return;
+    let mut start = [0u8; 1];
+    if !matches!(rt.arg(1, &mut start), Err(FillError::NotPresent)) {
+        return rt.eprintln("values takes no arguments: records on standard input");
     }
-    replay_run::replay::values();
+    replay_run::replay::values(&rt, &mut rt.stdin())
 }

@@ -6,10 +6,8 @@ use Rattle.codec.proofs.command.command_at.Goals as goal
 
 pub returns-then-place-lt13 : goal.returns-then-place-lt13
 unfolding command_at
-returns-then-place-lt13 c =
-    search (rules, below)
+returns-then-place-lt13 c = search (rules, below)
 
 pub returns-else-place-lt13 : goal.returns-else-place-lt13
 unfolding command_at
-returns-else-place-lt13 c =
-    search (rules, not_below)
+returns-else-place-lt13 c = search (rules, not_below)

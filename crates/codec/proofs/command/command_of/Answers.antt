@@ -5,41 +5,31 @@ use Rattle.codec.proofs.Commands.{known, unknown}
 use Rattle.codec.proofs.command.command_of.Goals as goal
 
 pub by_index_or_name-requires : goal.by_index_or_name-requires
-by_index_or_name-requires c =
-    omega arith
+by_index_or_name-requires c = omega arith
 
 pub returns-in-64 : goal.returns-in-64
-returns-in-64 c =
-    known (omega arith)
+returns-in-64 c = known (omega arith)
 
 pub returns-in-112 : goal.returns-in-112
-returns-in-112 c =
-    known (omega arith)
+returns-in-112 c = known (omega arith)
 
 pub returns-then-number-eq32 : goal.returns-then-number-eq32
-returns-then-number-eq32 c =
-    known (omega arith)
+returns-then-number-eq32 c = known (omega arith)
 
 pub returns-else-number-eq32 : goal.returns-else-number-eq32
-returns-else-number-eq32 c =
-    known (omega arith)
+returns-else-number-eq32 c = known (omega arith)
 
 pub returns-then-number-eq49 : goal.returns-then-number-eq49
-returns-then-number-eq49 c =
-    known (omega arith)
+returns-then-number-eq49 c = known (omega arith)
 
 pub returns-else-number-eq49 : goal.returns-else-number-eq49
-returns-else-number-eq49 c =
-    known (omega arith)
+returns-else-number-eq49 c = known (omega arith)
 
 pub returns-in_default : goal.returns-in_default
-returns-in_default c =
-    unknown (search rules)
+returns-in_default c = unknown (search rules)
 
 pub returns-in_default-2 : goal.returns-in_default-2
-returns-in_default-2 c =
-    unknown (search rules)
+returns-in_default-2 c = unknown (search rules)
 
 pub returns-in_default-3 : goal.returns-in_default-3
-returns-in_default-3 c =
-    unknown (search rules)
+returns-in_default-3 c = unknown (search rules)

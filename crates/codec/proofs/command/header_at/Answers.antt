@@ -1,7 +1,5 @@
 -- `codec::command::header_at` meets its contract: the record's fields are those of `header_at`.
-use borrow.Author.Rules.{rules}
 use Rattle.codec.proofs.command.header_at.Goals as goal
 
 pub returns : goal.returns
-returns c =
-    rw (c.segmentation_of.ensures, c.le16_at.ensures)
+returns c = rw (c.segmentation_of.ensures, c.le16_at.ensures)

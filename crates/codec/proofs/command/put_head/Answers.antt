@@ -1,12 +1,10 @@
 -- `codec::command::put_head` meets its contract: the fixed eight bytes, and behind them an Initiate's data size.
 use native.Mathlib.Omega.{arith}
 use Rattle.codec.proofs.WrittenBytes.{fixed_fits, size_fits, head_alone, head_sized}
-use borrow.Author.Rules.{rules}
 use Rattle.codec.proofs.command.put_head.Goals as goal
 
 pub put_bytes-requires : goal.put_bytes-requires
-put_bytes-requires c =
-    rw c.fixed_octets-fixed.ensures (omega (arith, fixed_fits c.args.c))
+put_bytes-requires c = rw c.fixed_octets-fixed.ensures (omega (arith, fixed_fits c.args.c))
 
 pub put_bytes-requires-in-Initiate : goal.put_bytes-requires-in-Initiate
 put_bytes-requires-in-Initiate c =

@@ -6,10 +6,8 @@ use Rattle.codec.proofs.dcf.dcf_count.Goals as goal
 
 pub returns-then-b-lt4 : goal.returns-then-b-lt4
 unfolding dcf_count
-returns-then-b-lt4 c =
-    search (rules, below)
+returns-then-b-lt4 c = search (rules, below)
 
 pub returns : goal.returns
 unfolding dcf_count
-returns c =
-    search (rules, not_below)
+returns c = search (rules, not_below)

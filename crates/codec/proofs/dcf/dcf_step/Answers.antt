@@ -1,20 +1,16 @@
 -- `codec::dcf::dcf_step` meets its contract: each return is one case of `dcf_step`.
 use native.Mathlib.Omega.{arith}
 use Rattle.codec.proofs.ReadCases.{dcf_end, dcf_no_head, dcf_no_data, dcf_entry}
-use borrow.Author.Rules.{rules}
 use Rattle.codec.proofs.dcf.dcf_step.Goals as goal
 
 pub returns-then-left-eq0 : goal.returns-then-left-eq0
-returns-then-left-eq0 c =
-    dcf_end _ _ c.if-left-eq0.true
+returns-then-left-eq0 c = dcf_end _ _ c.if-left-eq0.true
 
 pub returns-then-b-at : goal.returns-then-b-at
-returns-then-b-at c =
-    dcf_no_head _ _ c.if-left-eq0.false (omega arith)
+returns-then-b-at c = dcf_no_head _ _ c.if-left-eq0.false (omega arith)
 
 pub returns-then-b-at-lt7 : goal.returns-then-b-at-lt7
-returns-then-b-at-lt7 c =
-    dcf_no_head _ _ c.if-left-eq0.false (omega arith)
+returns-then-b-at-lt7 c = dcf_no_head _ _ c.if-left-eq0.false (omega arith)
 
 pub returns-then-b-start : goal.returns-then-b-start
 returns-then-b-start c =

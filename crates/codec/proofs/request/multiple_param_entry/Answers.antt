@@ -4,13 +4,10 @@ use borrow.Author.Rules.{rules}
 use Rattle.codec.proofs.request.multiple_param_entry.Goals as goal
 
 pub returns-then-payload-ne0 : goal.returns-then-payload-ne0
-returns-then-payload-ne0 c =
-    search (rules, is_not)
+returns-then-payload-ne0 c = search (rules, is_not)
 
 pub returns-then-payload-place : goal.returns-then-payload-place
-returns-then-payload-place c =
-    search (rules, is, not_below)
+returns-then-payload-place c = search (rules, is, not_below)
 
 pub returns : goal.returns
-returns c =
-    is _ _ _ _ c.if-payload-ne0.false (below _ _ _ _ c.if-payload-place.false (rw c.le16_at.ensures))
+returns c = is _ _ _ _ c.if-payload-ne0.false (below _ _ _ _ c.if-payload-place.false (rw c.le16_at.ensures))

@@ -1,32 +1,20 @@
 -- `SdoCommand::serialize` meets its contract: refused before a byte is written, or the head and the payload behind it.
 use native.Mathlib.Omega.{arith}
+use Rattle.laws.proofs.Clauses.{value_buffer}
 use Rattle.codec.proofs.WrittenBytes.{head_length_lem, bytes_length, write_refused, command_written}
-use borrow.Author.Rules.{rules}
 use Rattle.codec.proofs.command.SdoCommand.serialize.Goals as goal
 
-pub returns-then-buffer-start-clause-value : goal.returns-then-buffer-start-clause-value
-returns-then-buffer-start-clause-value c =
+pub returns-then-buffer-start : goal.returns-then-buffer-start
+returns-then-buffer-start c =
     let n = bytes_length c.args.self c.args.payload.now in
     let h = c.head_len-start.ensures in
-    (write_refused _ _ (omega arith)).0
+    value_buffer (write_refused _ _ (omega arith))
 
-pub returns-then-buffer-start-clause-buffer_after : goal.returns-then-buffer-start-clause-buffer_after
-returns-then-buffer-start-clause-buffer_after c =
+pub returns-then-buffer-start-2 : goal.returns-then-buffer-start-2
+returns-then-buffer-start-2 c =
     let n = bytes_length c.args.self c.args.payload.now in
     let h = c.head_len-start.ensures in
-    (write_refused _ _ (omega arith)).1
-
-pub returns-then-buffer-start-2-clause-value : goal.returns-then-buffer-start-2-clause-value
-returns-then-buffer-start-2-clause-value c =
-    let n = bytes_length c.args.self c.args.payload.now in
-    let h = c.head_len-start.ensures in
-    (write_refused _ _ (omega arith)).0
-
-pub returns-then-buffer-start-2-clause-buffer_after : goal.returns-then-buffer-start-2-clause-buffer_after
-returns-then-buffer-start-2-clause-buffer_after c =
-    let n = bytes_length c.args.self c.args.payload.now in
-    let h = c.head_len-start.ensures in
-    (write_refused _ _ (omega arith)).1
+    value_buffer (write_refused _ _ (omega arith))
 
 pub put_head-requires : goal.put_head-requires
 put_head-requires c =
@@ -34,10 +22,6 @@ put_head-requires c =
     let h = c.head_len-start.ensures in
     omega arith
 
-pub returns-clause-value : goal.returns-clause-value
-returns-clause-value c =
-    (command_written _ _ _ _ _ _ c.head_len-start.ensures.0 (omega arith) c.put_head.ensures c.put_bytes.ensures).0
-
-pub returns-clause-buffer_after : goal.returns-clause-buffer_after
-returns-clause-buffer_after c =
-    (command_written _ _ _ _ _ _ c.head_len-start.ensures.0 (omega arith) c.put_head.ensures c.put_bytes.ensures).1
+pub returns : goal.returns
+returns c =
+    value_buffer (command_written _ _ _ _ _ _ c.head_len-start.ensures.0 (omega arith) c.put_head.ensures c.put_bytes.ensures)

@@ -1,0 +1,10 @@
+-- `manager::start::write_object_by_index` meets its contract: a start is its change, done.
+use mathlib.Core.Path.{refl, ◌∙◌}
+use Rattle.manager.specs.Calls.{called}
+use Rattle.laws.proofs.Clauses.{value_store}
+use Rattle.manager.proofs.start.write_object_by_index.Goals as goal
+
+pub returns : goal.returns
+unfolding called
+returns c =
+    value_store (c.apply_change.ensures ∙ rw c.write_change.ensures.value refl, c.write_change.ensures.store_after)

@@ -14,17 +14,15 @@ replay: TRACE = traces/document01.trace
 values: TRACE = traces/values.txt
 replay values:
 	@[ -r '$(TRACE)' ] && [ ! -d '$(TRACE)' ] || { echo "$@: there is no file $(TRACE), or it cannot be read" >&2; exit 1; }
-	@rt check $@ 1>&2
-	@tests/programs
+	@tests/programs $@ 1>&2
 	@case '$(TRACE)' in *.txt) $(MAKE) -s trace < '$(TRACE)' | target/run/$@ ;; *) target/run/$@ < '$(TRACE)' ;; esac
 
 # The DCF on standard input, repaired, on standard output, and on standard error the line that tells what came of it (docs/SALVAGE.md), so what proving
 # and building it says is shown only where that fails.
 salvage:
-	@[ -e target/bin/salvage ] || echo 'salvage is proved and built first, which takes about a minute' >&2
+	@[ -e crates/salvage/out/salvage ] || echo 'salvage is proved and built first, which takes a minute or two' >&2
 	@mkdir -p target
-	@rt check salvage > target/salvage.log 2>&1 < /dev/null || { cat target/salvage.log >&2; exit 1; }
-	@tests/programs < /dev/null
+	@tests/programs salvage > target/salvage.log 2>&1 < /dev/null || { cat target/salvage.log >&2; exit 1; }
 	@target/run/salvage
 
 # The static library for C and Rust on x86-64: target/staticlib/libostelumiv.a, with include/ostelumiv.h.
@@ -56,8 +54,7 @@ capture:
 # each of its modes; salvage, and as many drawn DCFs through it.
 RECORDS = 1000000
 compare:
-	@rt check replay replay_states values salvage salvages 1>&2
-	@tests/programs
+	@tests/programs replay replay_states values salvage salvages 1>&2
 	@cd rust && cargo build --release --offline --quiet -p trace -p replay_oracle -p salvage_oracle
 	@tests/samples
 	@tests/traces
@@ -72,14 +69,13 @@ compare:
 # An exported LINES is the terminal's height, not a file.
 dissect: FILES = $(if $(filter command,$(firstword $(origin LINES))),$(LINES))
 dissect:
-	@$(if $(FILES),,rt check replay replay_states 1>&2)
-	@$(if $(FILES),,tests/programs)
+	@$(if $(FILES),,tests/programs replay replay_states 1>&2)
 	@cd rust && cargo build --release --offline --quiet -p trace -p capture
 	@tests/dissect $(FILES)
 
 # Instructions of our codec and of our replay, and of the repository's, by callgrind (tests/valgrind).
 bench: lib
 	@cd rust && VALGRIND=../tests/valgrind ../tests/x86-64 cargo run --release --offline --quiet -p bench
-	@rt check replay 1>&2
+	@tests/programs replay 1>&2
 	@cd rust && ../tests/x86-64 cargo build --release --offline --quiet -p trace -p replay_oracle
 	@tests/bench

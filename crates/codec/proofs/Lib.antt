@@ -4,5 +4,4 @@ pub mod Entries
 pub mod ReadCases
 pub mod Refuses
 pub mod RoundTrips
-pub mod Steps
 pub mod WrittenBytes

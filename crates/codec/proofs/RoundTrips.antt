@@ -1,5 +1,6 @@
 -- What was written is read back: a header with its numbers modulo 64, a command with the payload that its segment size says. So a
 -- well-formed header or command is read back the same.
+use Rattle.std.specs.Prelude.{Option, Some, None, Ok}
 use Prim.Native.Nat.{ℕ, ◌+◌, ◌*◌, ◌/◌, ◌%◌, ◌<◌, ◌≤◌}
 use native.Mathlib.Nat.{add_assoc, mod-eq_of_lt}
 use native.Mathlib.Omega.{arith}
@@ -28,6 +29,7 @@ use Rattle.codec.specs.Command.{
   read_payload,
   segmentation_number,
   segmentation_of,
+  found,
   too_short,
 }
 use Rattle.codec.specs.Sequence as S
@@ -40,14 +42,11 @@ use Rattle.codec.specs.Sequence.{
   sequence_read,
 }
 use Rattle.codec.specs.declared.command.CommandLayerHeader.{CommandLayerHeader}
-use Rattle.codec.specs.declared.command.CommandRead.{CommandRead}
-use Rattle.codec.specs.declared.command.DataSize.{DataSize}
 use Rattle.codec.specs.declared.command.SdoCommand.{SdoCommand}
 use Rattle.codec.specs.declared.command.Segmentation.{Segmentation}
 use Rattle.codec.specs.declared.sequence.ReceiveConnState.{ReceiveConnState}
 use Rattle.codec.specs.declared.sequence.SendConnState.{SendConnState}
 use Rattle.codec.specs.declared.sequence.SequenceLayerHeader.{SequenceLayerHeader}
-use Rattle.codec.specs.declared.sequence.SequenceRead.{SequenceRead}
 use Rattle.codec.proofs.Commands.{decoded_back}
 use Rattle.codec.proofs.ReadCases.{payload_past, payload_whole}
 use Rattle.codec.proofs.WrittenBytes.{head_length_lem, bytes_length}
@@ -96,7 +95,7 @@ modulo64 h =
       send_con = h.send_con;
     }
 
-pub sequence_back : (h : SequenceLayerHeader) (rest : Bytes) → sequence_read (sequence_bytes h ++ rest) ≡ SequenceRead.Header (modulo64 h)
+pub sequence_back : (h : SequenceLayerHeader) (rest : Bytes) → sequence_read (sequence_bytes h ++ rest) ≡ Ok (modulo64 h)
 unfolding sequence_read
 sequence_back h rest =
     let r = receive_small h.receive_con in
@@ -113,7 +112,7 @@ sequence_back h rest =
     )))
 
 pub sequence_same : (h : SequenceLayerHeader) (rest : Bytes) → S.WellFormed h
-    → sequence_read (sequence_bytes h ++ rest) ≡ SequenceRead.Header h
+    → sequence_read (sequence_bytes h ++ rest) ≡ Ok h
 sequence_same h rest w = sequence_back h rest ∙ rw (mod-eq_of_lt w.receive, mod-eq_of_lt w.send)
 
 -- ---- the command
@@ -149,9 +148,9 @@ module _ (k : ℕ) where
   kind_back false false = omega arith
 
 -- the numbers of a command as the code holds them: a segment size of 16 bits, a data size of 32
-abbrev pub SizeFits : DataSize → Type 0
-SizeFits (DataSize.Present n) = n < 4294967296
-SizeFits DataSize.Absent = Unit
+abbrev pub SizeFits : Option ℕ → Type 0
+SizeFits (Some n) = n < 4294967296
+SizeFits None = Unit
 
 pub record Fits (c : SdoCommand) : Type 0 where
   pub segment : c.header.segment_size < 65536
@@ -170,12 +169,12 @@ header_back h tail fits =
     )
 
 -- a data size is written with Initiate only, and an absent one as 0
-abbrev pub size_as_written : Segmentation → DataSize → DataSize
-size_as_written Segmentation.Initiate (DataSize.Present n) = DataSize.Present n
-size_as_written Segmentation.Initiate DataSize.Absent = DataSize.Present 0
-size_as_written Segmentation.Expedited d = DataSize.Absent
-size_as_written Segmentation.Segment d = DataSize.Absent
-size_as_written Segmentation.Complete d = DataSize.Absent
+abbrev pub size_as_written : Segmentation → Option ℕ → Option ℕ
+size_as_written Segmentation.Initiate (Some n) = Some n
+size_as_written Segmentation.Initiate None = Some 0
+size_as_written Segmentation.Expedited d = None
+size_as_written Segmentation.Segment d = None
+size_as_written Segmentation.Complete d = None
 
 -- a number of 32 bits is that of its four bytes
 joined : (n q r s a b c d : ℕ) → q * 256 + a ≡ n → r * 256 + b ≡ q → s * 256 + c ≡ r → d ≡ s → a + b * 256 + (c + d * 256) * 65536 ≡ n
@@ -193,12 +192,12 @@ four_bytes n h =
     (joined n (n / 256) (n / 256 / 256) (n / 256 / 256 / 256) _ _ _ _
     (byte_off n) (byte_off (n / 256)) (byte_off (n / 256 / 256)) (mod-eq_of_lt last))
 
-size_back : (h : CommandLayerHeader) (s : Segmentation) (d : DataSize) (tail : Bytes) → SizeFits d
+size_back : (h : CommandLayerHeader) (s : Segmentation) (d : Option ℕ) (tail : Bytes) → SizeFits d
     → data_size_at (fixed_head h ++ (after_head s d ++ tail)) s ≡ size_as_written s d
 size_back h Segmentation.Expedited d tail fits = refl
-size_back h Segmentation.Initiate (DataSize.Present n) tail fits =
+size_back h Segmentation.Initiate (Some n) tail fits =
     rw (four_bytes n fits)
-size_back h Segmentation.Initiate DataSize.Absent tail fits = refl
+size_back h Segmentation.Initiate None tail fits = refl
 size_back h Segmentation.Segment d tail fits = refl
 size_back h Segmentation.Complete d tail fits = refl
 
@@ -236,7 +235,7 @@ module _ (c : SdoCommand) (payload rest : Bytes) (fits : Fits c) where
   -- every command: its payload is what its segment size says of what lies behind its head
   pub written_whole : c.header.segment_size ≤ length (payload ++ rest)
       → command_read (command_bytes c payload ++ rest)
-      ≡ CommandRead.Command (as_written c) (head_length kind) c.header.segment_size
+      ≡ found (as_written c) (head_length kind) c.header.segment_size
   written_whole h =
       let l = whole_length in
       let inside : head_length kind + c.header.segment_size ≤ length whole = omega arith in
@@ -250,24 +249,23 @@ module _ (c : SdoCommand) (payload rest : Bytes) (fits : Fits c) where
       → command_read (command_bytes c payload ++ rest) ≡ too_short
   written_short h =
       let l = whole_length in
-      let head : head_length kind ≤ length whole = omega arith in
       let past : length whole < head_length kind + c.header.segment_size = omega arith in
-      rw in_two (read_head ∙ sym (payload_past whole c.header (head_length kind) refl head past))
+      rw in_two (read_head ∙ sym (payload_past whole c.header (head_length kind) refl past))
 
 -- a well-formed command is read back the same, and so is its payload
-sized_same : (s : Segmentation) (d : DataSize) → C.SizedAs s d → size_as_written s d ≡ d
-sized_same Segmentation.Initiate (DataSize.Present n) h = refl
-sized_same Segmentation.Initiate DataSize.Absent h = absurd h
-sized_same Segmentation.Expedited (DataSize.Present n) h = absurd h
-sized_same Segmentation.Expedited DataSize.Absent h = refl
-sized_same Segmentation.Segment (DataSize.Present n) h = absurd h
-sized_same Segmentation.Segment DataSize.Absent h = refl
-sized_same Segmentation.Complete (DataSize.Present n) h = absurd h
-sized_same Segmentation.Complete DataSize.Absent h = refl
+sized_same : (s : Segmentation) (d : Option ℕ) → C.SizedAs s d → size_as_written s d ≡ d
+sized_same Segmentation.Initiate (Some n) h = refl
+sized_same Segmentation.Initiate None h = absurd h
+sized_same Segmentation.Expedited (Some n) h = absurd h
+sized_same Segmentation.Expedited None h = refl
+sized_same Segmentation.Segment (Some n) h = absurd h
+sized_same Segmentation.Segment None h = refl
+sized_same Segmentation.Complete (Some n) h = absurd h
+sized_same Segmentation.Complete None h = refl
 
 module _ (c : SdoCommand) (payload rest : Bytes) (w : C.WellFormed c payload) where
   pub command_same : Fits c
-      → command_read (command_bytes c payload ++ rest) ≡ CommandRead.Command c (head_length c.header.segmentation) (length payload)
+      → command_read (command_bytes c payload ++ rest) ≡ found c (head_length c.header.segmentation) (length payload)
   command_same fits =
       let e = w.segment in
       let l = length-append payload rest in

@@ -1,4 +1,5 @@
 -- What a write to the start of a buffer comes to, refused and done, and how a command's bytes are put there.
+use Rattle.std.specs.Prelude.{Option, Some, None, Ok, Err}
 use Prim.Native.Nat.{ℕ, ◌+◌, ◌<◌, ◌≤◌}
 use native.Mathlib.Nat.{zero-add}
 use native.Mathlib.Omega.{arith}
@@ -10,11 +11,9 @@ use Rattle.laws.proofs.Picks.{within, beyond}
 use Rattle.codec.specs.Bytes.{Bytes, placed}
 use Rattle.codec.specs.Command.{fixed_head, size_octets, after_head, command_head, command_bytes, head_length}
 use Rattle.codec.specs.Writing.{written, buffer_after, put_answer, put_buffer}
-use Rattle.codec.specs.declared.command.DataSize.{DataSize}
 use Rattle.codec.specs.declared.command.SdoCommand.{SdoCommand}
 use Rattle.codec.specs.declared.command.Segmentation.{Segmentation}
 use Rattle.codec.specs.declared.refusal.Refusal.{Refusal}
-use Rattle.codec.specs.declared.sequence.Written.{Written}
 
 -- bytes put within others leave their number
 pub placed_length : (b : Bytes) (at : ℕ) (a : Bytes) → at + length a ≤ length b → length (placed b at a) ≡ length b
@@ -23,31 +22,31 @@ placed_length b at a h = rw (length-append, length-append, length-take, length-d
 
 module _ (bytes buffer : Bytes) where
   pub write_refused : length buffer < length bytes
-      → (Written.Refused Refusal.BufferTooShort ≡ written bytes buffer) × (buffer ≡ buffer_after bytes buffer)
+      → (Err Refusal.BufferTooShort ≡ written bytes buffer) × (buffer ≡ buffer_after bytes buffer)
   unfolding written buffer_after
   write_refused h = (beyond _ _ _ _ h refl, beyond _ _ _ _ h refl)
 
   pub write_done : (n : ℕ) (after : Bytes) → n ≡ length bytes → length bytes ≤ length buffer
       → after ≡ bytes ++ drop (length bytes) buffer
-      → (Written.Bytes n ≡ written bytes buffer) × (after ≡ buffer_after bytes buffer)
+      → (Ok n ≡ written bytes buffer) × (after ≡ buffer_after bytes buffer)
   unfolding written buffer_after
   write_done n after e h k = (within _ _ _ _ h (rw e), within _ _ _ _ h k)
 
 -- bytes put at a place, refused and done
 module _ (buffer : Bytes) (at : ℕ) (bytes : Bytes) where
   pub put_refused : length buffer < at + length bytes
-      → (Written.Refused Refusal.BufferTooShort ≡ put_answer buffer at bytes) × (buffer ≡ put_buffer buffer at bytes)
+      → (Err Refusal.BufferTooShort ≡ put_answer buffer at bytes) × (buffer ≡ put_buffer buffer at bytes)
   unfolding put_answer put_buffer
   put_refused h = (beyond _ _ _ _ h refl, beyond _ _ _ _ h refl)
 
   pub put_done : (after : Bytes) → at + length bytes ≤ length buffer → after ≡ placed buffer at bytes
-      → (Written.Bytes (length bytes) ≡ put_answer buffer at bytes) × (after ≡ put_buffer buffer at bytes)
+      → (Ok (length bytes) ≡ put_answer buffer at bytes) × (after ≡ put_buffer buffer at bytes)
   unfolding put_answer put_buffer
   put_done after h e = (within _ _ _ _ h refl, within _ _ _ _ h e)
 
 -- four stores in a row write four bytes
 pub write_four : (bytes buffer : Bytes) (a b c d : ℕ) → 4 ≤ length buffer → a ∷ b ∷ c ∷ d ∷ [] ≡ bytes
-    → (Written.Bytes 4 ≡ written bytes buffer) × (set (set (set (set buffer 0 a) 1 b) 2 c) 3 d ≡ buffer_after bytes buffer)
+    → (Ok 4 ≡ written bytes buffer) × (set (set (set (set buffer 0 a) 1 b) 2 c) 3 d ≡ buffer_after bytes buffer)
 write_four bytes buffer a b c d h e =
     rw (← e) (write_done (a ∷ b ∷ c ∷ d ∷ []) buffer 4 _ refl h (sets-eq (a ∷ b ∷ c ∷ d ∷ []) buffer 0 h))
 
@@ -76,8 +75,15 @@ put_front buffer bytes = (rw zero-add, rw (placed_front, zero-add))
 
 -- what is put at the start is what a write leaves
 pub write_placed : (bytes buffer : Bytes) (n : ℕ) (after : Bytes) → n ≡ length bytes → n ≤ length buffer → after ≡ placed buffer 0 bytes
-    → (Written.Bytes n ≡ written bytes buffer) × (after ≡ buffer_after bytes buffer)
+    → (Ok n ≡ written bytes buffer) × (after ≡ buffer_after bytes buffer)
 write_placed bytes buffer n after e h k = write_done bytes buffer n after e (rw e at h) (k ∙ placed_front buffer bytes)
+
+-- only an Initiate has a data size
+no_size : (s : Segmentation) (d : Option ℕ) → (s ≡ Segmentation.Initiate → ⊥) → after_head s d ≡ []
+no_size Segmentation.Expedited d other = refl
+no_size Segmentation.Initiate d other = absurd (other refl)
+no_size Segmentation.Segment d other = refl
+no_size Segmentation.Complete d other = refl
 
 -- a command's head, by its segmentation, and the lengths of its bytes
 module _ (c : SdoCommand) where
@@ -96,9 +102,9 @@ module _ (c : SdoCommand) where
 
   -- the fixed bytes put first, and behind them an Initiate's data size
   module _ (fixed buffer first : Bytes) (e : fixed ≡ fixed_head c.header) (f : first ≡ placed buffer 0 fixed) where
-    pub head_alone : after_head c.header.segmentation c.data_size ≡ [] → first ≡ placed buffer 0 (command_head c)
+    pub head_alone : (c.header.segmentation ≡ Segmentation.Initiate → ⊥) → first ≡ placed buffer 0 (command_head c)
     unfolding command_head
-    head_alone none = rw (f, e, none)
+    head_alone other = rw (f, e, no_size c.header.segmentation c.data_size other)
 
     pub head_sized : (size after : Bytes) → size ≡ size_octets c.data_size → after ≡ placed first 8 size
         → c.header.segmentation ≡ Segmentation.Initiate → after ≡ placed buffer 0 (command_head c)
@@ -106,10 +112,10 @@ module _ (c : SdoCommand) where
     head_sized size after g h initiate =
         h ∙ rw (f, g, e, sized_head initiate) (placed_more buffer (fixed_head c.header) (size_octets c.data_size) 8 refl)
 
-  head_length_of : (s : Segmentation) (d : DataSize) → length (after_head s d) + 8 ≡ head_length s
+  head_length_of : (s : Segmentation) (d : Option ℕ) → length (after_head s d) + 8 ≡ head_length s
   head_length_of Segmentation.Expedited d = refl
-  head_length_of Segmentation.Initiate (DataSize.Present n) = refl
-  head_length_of Segmentation.Initiate DataSize.Absent = refl
+  head_length_of Segmentation.Initiate (Some n) = refl
+  head_length_of Segmentation.Initiate None = refl
   head_length_of Segmentation.Segment d = refl
   head_length_of Segmentation.Complete d = refl
 
@@ -124,7 +130,7 @@ module _ (c : SdoCommand) where
   -- the head put first and the payload behind it
   pub command_written : (payload buffer first after : Bytes) (start : ℕ) → start ≡ head_length c.header.segmentation
       → start + length payload ≤ length buffer → first ≡ placed buffer 0 (command_head c) → after ≡ placed first start payload
-      → (Written.Bytes (start + length payload) ≡ written (command_bytes c payload) buffer)
+      → (Ok (start + length payload) ≡ written (command_bytes c payload) buffer)
       × (after ≡ buffer_after (command_bytes c payload) buffer)
   unfolding command_bytes
   command_written payload buffer first after start e h f g =

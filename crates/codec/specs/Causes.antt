@@ -1,6 +1,6 @@
 -- Each refusal of the codec's readers and writers, given exactly when document 01's column says ("Numbers that refuse"), in the order of the checks.
--- The codec's other functions refuse nothing.
-use Rattle.std.specs.Prelude.{ℕ, ◌+◌, ◌/◌, ◌%◌, ◌<◌, ◌≡◌, List, [], ◌∷◌, length, get_or}
+-- Of the codec's other functions only the decoder of a command number refuses, with 2 (`Commands.membership`).
+use Rattle.std.specs.Prelude.{ℕ, ◌+◌, ◌/◌, ◌%◌, ◌<◌, ◌≡◌, List, [], ◌∷◌, length, get_or, Err}
 use Rattle.laws.specs.Checks.{Check, Exactly, check}
 use Rattle.codec.specs.Bytes.{Bytes, le16_at}
 use Rattle.codec.specs.Command.{In, command_bytes, command_numbers, command_read, head_length, segmentation_of}
@@ -8,18 +8,10 @@ use Rattle.codec.specs.Dcf.{dcf_count}
 use Rattle.codec.specs.Request.{read_by_index, read_multiple_param, write_all_by_index, write_by_index}
 use Rattle.codec.specs.Sequence.{sequence_bytes, sequence_read}
 use Rattle.codec.specs.Writing.{put_answer, written}
-use Rattle.codec.specs.declared.command.CommandRead.{CommandRead}
 use Rattle.codec.specs.declared.command.SdoCommand.{SdoCommand}
 use Rattle.codec.specs.declared.command.Segmentation.{Segmentation}
-use Rattle.codec.specs.declared.dcf.DcfCount.{DcfCount}
 use Rattle.codec.specs.declared.refusal.Refusal.{Refusal}
-use Rattle.codec.specs.declared.request.ReadByIndexRead.{ReadByIndexRead}
-use Rattle.codec.specs.declared.request.ReadMultipleParamRead.{ReadMultipleParamRead}
-use Rattle.codec.specs.declared.request.WriteAllByIndexRead.{WriteAllByIndexRead}
-use Rattle.codec.specs.declared.request.WriteByIndexRead.{WriteByIndexRead}
 use Rattle.codec.specs.declared.sequence.SequenceLayerHeader.{SequenceLayerHeader}
-use Rattle.codec.specs.declared.sequence.SequenceRead.{SequenceRead}
-use Rattle.codec.specs.declared.sequence.Written.{Written}
 
 -- ---- 1: codec bytes or room too short. 2: unknown command number.
 abbrev pub sequence_read_checks : Bytes → List (Check Refusal)
@@ -62,15 +54,15 @@ dcf_checks b = check Refusal.DcfTooShort (length b < 4) ∷ []
 
 -- ---- given exactly when
 pub record CodecRefuses : Type 0 where
-  pub sequence_read_lem : (b : Bytes) → Exactly SequenceRead.Refused (sequence_read_checks b) (sequence_read b)
+  pub sequence_read_lem : (b : Bytes) → Exactly Err (sequence_read_checks b) (sequence_read b)
   pub sequence_write : (h : SequenceLayerHeader) (buffer : Bytes)
-      → Exactly Written.Refused (sequence_write_checks buffer) (written (sequence_bytes h) buffer)
-  pub command_read_lem : (b : Bytes) → Exactly CommandRead.Refused (command_read_checks b) (command_read b)
+      → Exactly Err (sequence_write_checks buffer) (written (sequence_bytes h) buffer)
+  pub command_read_lem : (b : Bytes) → Exactly Err (command_read_checks b) (command_read b)
   pub command_write : (c : SdoCommand) (payload buffer : Bytes)
-      → Exactly Written.Refused (command_write_checks c.header.segmentation payload buffer) (written (command_bytes c payload) buffer)
-  pub put : (buffer : Bytes) (at : ℕ) (src : Bytes) → Exactly Written.Refused (put_checks buffer at src) (put_answer buffer at src)
-  pub read_by_index_lem : (p : Bytes) → Exactly ReadByIndexRead.Refused (index_checks p) (read_by_index p)
-  pub write_by_index_lem : (p : Bytes) → Exactly WriteByIndexRead.Refused (index_checks p) (write_by_index p)
-  pub write_all_by_index_lem : (p : Bytes) → Exactly WriteAllByIndexRead.Refused (index_checks p) (write_all_by_index p)
-  pub read_multiple_param_lem : (p : Bytes) → Exactly ReadMultipleParamRead.Refused (multiple_checks p) (read_multiple_param p)
-  pub dcf_count_lem : (b : Bytes) → Exactly DcfCount.Refused (dcf_checks b) (dcf_count b)
+      → Exactly Err (command_write_checks c.header.segmentation payload buffer) (written (command_bytes c payload) buffer)
+  pub put : (buffer : Bytes) (at : ℕ) (src : Bytes) → Exactly Err (put_checks buffer at src) (put_answer buffer at src)
+  pub read_by_index_lem : (p : Bytes) → Exactly Err (index_checks p) (read_by_index p)
+  pub write_by_index_lem : (p : Bytes) → Exactly Err (index_checks p) (write_by_index p)
+  pub write_all_by_index_lem : (p : Bytes) → Exactly Err (index_checks p) (write_all_by_index p)
+  pub read_multiple_param_lem : (p : Bytes) → Exactly Err (multiple_checks p) (read_multiple_param p)
+  pub dcf_count_lem : (b : Bytes) → Exactly Err (dcf_checks b) (dcf_count b)

@@ -1,14 +1,11 @@
 -- The command (document 01, "Bytes"): 0, transaction, flags, command number, segment size (2 bytes, low first), 0, 0; after Initiate a
 -- 4-byte data size; payload.
-use Rattle.std.specs.Prelude.{ℕ, ◌+◌, ◌*◌, ◌/◌, ◌%◌, ◌≡◌, Bool, true, false, List, [], ◌∷◌, ◌++◌, ◌⊎◌, ltb, eqb, length, get_or}
+use Rattle.std.specs.Prelude.{ℕ, ◌+◌, ◌*◌, ◌/◌, ◌%◌, ◌≡◌, Bool, true, false, List, [], ◌∷◌, ◌++◌, ◌⊎◌, ltb, eqb, length, get_or, Option, Some, None, Result, Ok, Err}
+use Rattle.codec.specs.declared.command.FoundCommand.{FoundCommand}
 use Rattle.laws.specs.Pick.{pick, among}
 use Rattle.codec.specs.Bytes.{Bytes, le16, le32, le16_at, le32_at}
-use Rattle.codec.specs.declared.command.CommandDecoded.{CommandDecoded}
 use Rattle.codec.specs.declared.command.CommandId.{CommandId}
 use Rattle.codec.specs.declared.command.CommandLayerHeader.{CommandLayerHeader}
-use Rattle.codec.specs.declared.command.CommandListed.{CommandListed}
-use Rattle.codec.specs.declared.command.CommandRead.{CommandRead}
-use Rattle.codec.specs.declared.command.DataSize.{DataSize}
 use Rattle.codec.specs.declared.command.SdoCommand.{SdoCommand}
 use Rattle.codec.specs.declared.command.Segmentation.{Segmentation}
 use Rattle.codec.specs.declared.refusal.Refusal.{Refusal}
@@ -56,21 +53,21 @@ In n [] = ⊥
 In n (x ∷ table) = (x ≡ n) ⊎ In n table
 
 -- the listing: places 0 to 12 give their number, others none
-unfoldable pub command_at : ℕ → CommandListed
-command_at place = pick (ltb place 13) (CommandListed.Number (get_or command_numbers place 0)) CommandListed.NoneSuch
+unfoldable pub command_at : ℕ → Option ℕ
+command_at place = pick (ltb place 13) (Some (get_or command_numbers place 0)) None
 
 -- the command of a list that has a number
-abbrev pub command_among : ℕ → List CommandId → CommandDecoded
-command_among n [] = CommandDecoded.Unknown
-command_among n (id ∷ rest) = pick (eqb (command_number id) n) (CommandDecoded.Known id) (command_among n rest)
+abbrev pub command_among : ℕ → List CommandId → Option CommandId
+command_among n [] = None
+command_among n (id ∷ rest) = pick (eqb (command_number id) n) (Some id) (command_among n rest)
 
-unfoldable pub command_of : ℕ → CommandDecoded
+unfoldable pub command_of : ℕ → Option CommandId
 command_of n = command_among n commands
 
 -- The table's membership rule: a number is decoded exactly when it stands in the table, and then as the command whose number it is.
-abbrev pub Named : ℕ → List ℕ → CommandDecoded → Type 0
-Named n table (CommandDecoded.Known id) = In n table × (command_number id ≡ n)
-Named n table CommandDecoded.Unknown = In n table → ⊥
+abbrev pub Named : ℕ → List ℕ → Option CommandId → Type 0
+Named n table (Some id) = In n table × (command_number id ≡ n)
+Named n table None = In n table → ⊥
 
 -- Segmentation: Expedited 0, Initiate 1, Segment 2, Complete 3.
 abbrev pub segmentation_number : Segmentation → ℕ
@@ -115,30 +112,33 @@ head_length Segmentation.Initiate = 12
 head_length Segmentation.Segment = 8
 head_length Segmentation.Complete = 8
 
-abbrev pub data_size_at : Bytes → Segmentation → DataSize
-data_size_at b Segmentation.Expedited = DataSize.Absent
-data_size_at b Segmentation.Initiate = DataSize.Present (le32_at b 8)
-data_size_at b Segmentation.Segment = DataSize.Absent
-data_size_at b Segmentation.Complete = DataSize.Absent
+abbrev pub data_size_at : Bytes → Segmentation → Option ℕ
+data_size_at b Segmentation.Expedited = None
+data_size_at b Segmentation.Initiate = Some (le32_at b 8)
+data_size_at b Segmentation.Segment = None
+data_size_at b Segmentation.Complete = None
 
 -- Reading checks: 8 bytes, command number, 12 bytes if Initiate, payload. Reserved bits and trailing bytes are ignored.
-abbrev pub too_short : CommandRead
-too_short = CommandRead.Refused Refusal.BufferTooShort
+abbrev pub found : SdoCommand → ℕ → ℕ → Result FoundCommand Refusal
+found c start len = Ok (record { command = c; start = start; len = len })
 
-unfoldable pub read_payload : Bytes → CommandLayerHeader → CommandRead
+abbrev pub too_short : Result FoundCommand Refusal
+too_short = Err Refusal.BufferTooShort
+
+unfoldable pub read_payload : Bytes → CommandLayerHeader → Result FoundCommand Refusal
 read_payload b h =
     pick (ltb (length b) (head_length h.segmentation)) too_short (
     pick (ltb (length b) (head_length h.segmentation + h.segment_size)) too_short
-    (CommandRead.Command
+    (found
     (record { header = h; data_size = data_size_at b h.segmentation })
     (head_length h.segmentation)
     h.segment_size))
 
-abbrev pub read_decoded : Bytes → CommandDecoded → CommandRead
-read_decoded b (CommandDecoded.Known id) = read_payload b (header_at b id)
-read_decoded b CommandDecoded.Unknown = CommandRead.Refused Refusal.InvalidEnumValue
+abbrev pub read_decoded : Bytes → Option CommandId → Result FoundCommand Refusal
+read_decoded b (Some id) = read_payload b (header_at b id)
+read_decoded b None = Err Refusal.InvalidEnumValue
 
-unfoldable pub command_read : Bytes → CommandRead
+unfoldable pub command_read : Bytes → Result FoundCommand Refusal
 command_read b = pick (ltb (length b) 8) too_short (read_decoded b (command_of (get_or b 3 0)))
 
 -- Writing puts the segment size as given and an absent data size as 0.
@@ -146,11 +146,11 @@ abbrev pub fixed_head : CommandLayerHeader → Bytes
 fixed_head h =
     0 ∷ h.transaction_id ∷ flags_of h ∷ command_number h.command_id ∷ (le16 h.segment_size ++ (0 ∷ 0 ∷ []))
 
-abbrev pub size_octets : DataSize → Bytes
-size_octets (DataSize.Present n) = le32 n
-size_octets DataSize.Absent = 0 ∷ 0 ∷ 0 ∷ 0 ∷ []
+abbrev pub size_octets : Option ℕ → Bytes
+size_octets (Some n) = le32 n
+size_octets None = 0 ∷ 0 ∷ 0 ∷ 0 ∷ []
 
-abbrev pub after_head : Segmentation → DataSize → Bytes
+abbrev pub after_head : Segmentation → Option ℕ → Bytes
 after_head Segmentation.Expedited d = []
 after_head Segmentation.Initiate d = size_octets d
 after_head Segmentation.Segment d = []
@@ -163,15 +163,15 @@ unfoldable pub command_bytes : SdoCommand → Bytes → Bytes
 command_bytes c payload = command_head c ++ payload
 
 -- A command is well formed when segment size equals payload length and a data size is present exactly with Initiate.
-abbrev pub SizedAs : Segmentation → DataSize → Type 0
-SizedAs Segmentation.Initiate (DataSize.Present n) = Unit
-SizedAs Segmentation.Initiate DataSize.Absent = ⊥
-SizedAs Segmentation.Expedited (DataSize.Present n) = ⊥
-SizedAs Segmentation.Expedited DataSize.Absent = Unit
-SizedAs Segmentation.Segment (DataSize.Present n) = ⊥
-SizedAs Segmentation.Segment DataSize.Absent = Unit
-SizedAs Segmentation.Complete (DataSize.Present n) = ⊥
-SizedAs Segmentation.Complete DataSize.Absent = Unit
+abbrev pub SizedAs : Segmentation → Option ℕ → Type 0
+SizedAs Segmentation.Initiate (Some n) = Unit
+SizedAs Segmentation.Initiate None = ⊥
+SizedAs Segmentation.Expedited (Some n) = ⊥
+SizedAs Segmentation.Expedited None = Unit
+SizedAs Segmentation.Segment (Some n) = ⊥
+SizedAs Segmentation.Segment None = Unit
+SizedAs Segmentation.Complete (Some n) = ⊥
+SizedAs Segmentation.Complete None = Unit
 
 pub record WellFormed (c : SdoCommand) (payload : Bytes) : Type 0 where
   pub segment : c.header.segment_size ≡ length payload

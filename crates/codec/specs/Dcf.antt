@@ -1,10 +1,9 @@
 -- The concise DCF (document 01, "Bytes"): 4-byte count, then entries of index (2), sub-index (1), size (4), data, low byte first. An
 -- entry is readable when its 7 bytes and its data lie within the bytes and fewer than count came before. The readable entries stop at
 -- the first that isn't. Trailing bytes are ignored.
-use Rattle.std.specs.Prelude.{ℕ, zero, suc, ◌+◌, ◌-◌, List, [], ◌∷◌, ◌++◌, ltb, leb, eqb, length, get_or, take, drop}
+use Rattle.std.specs.Prelude.{ℕ, zero, suc, ◌+◌, ◌-◌, List, [], ◌∷◌, ◌++◌, ltb, leb, eqb, length, get_or, take, drop, Result, Ok, Err}
 use Rattle.laws.specs.Pick.{pick}
 use Rattle.codec.specs.Bytes.{Bytes, le16, le16_at, le32_at}
-use Rattle.codec.specs.declared.dcf.DcfCount.{DcfCount}
 use Rattle.codec.specs.declared.dcf.DcfCursor.{DcfCursor}
 use Rattle.codec.specs.declared.dcf.DcfStep.{DcfStep}
 use Rattle.codec.specs.declared.refusal.Refusal.{Refusal}
@@ -13,8 +12,8 @@ use Rattle.codec.specs.declared.refusal.Refusal.{Refusal}
 abbrev pub count_of : Bytes → ℕ
 count_of b = le32_at b 0
 
-unfoldable pub dcf_count : Bytes → DcfCount
-dcf_count b = pick (ltb (length b) 4) (DcfCount.Refused Refusal.DcfTooShort) (DcfCount.Count (count_of b))
+unfoldable pub dcf_count : Bytes → Result ℕ Refusal
+dcf_count b = pick (ltb (length b) 4) (Err Refusal.DcfTooShort) (Ok (count_of b))
 
 -- the size that an entry says, and the first place behind its data
 abbrev pub size_at : Bytes → ℕ → ℕ
@@ -49,10 +48,7 @@ dcf_step b c =
     (pick (leb (c.at + 7) (length b))
     (pick (leb (behind b c.at) (length b))
     (DcfStep.Entry
-    (le16_at b c.at)
-    (get_or b (c.at + 2) 0)
-    (c.at + 7)
-    (size_at b c.at)
+    (record { start = c.at + 7; len = size_at b c.at; index = le16_at b c.at; sub_index = get_or b (c.at + 2) 0 })
     (record { at = behind b c.at; left = c.left - 1 }))
     DcfStep.Unreadable)
     DcfStep.Unreadable)

@@ -1,14 +1,13 @@
 -- The sequence header (document 01, "Bytes"): octet 0 is receive number × 4 + receive state, octet 1 send number × 4 + send state, two
 -- zeros. When written, numbers are taken modulo 64. Reading ignores octets 2 and 3. A header is well formed when both numbers are
 -- below 64.
-use Rattle.std.specs.Prelude.{ℕ, ◌+◌, ◌*◌, ◌/◌, ◌%◌, ◌<◌, [], ◌∷◌, ltb, length, get_or}
+use Rattle.std.specs.Prelude.{ℕ, ◌+◌, ◌*◌, ◌/◌, ◌%◌, ◌<◌, [], ◌∷◌, ltb, length, get_or, Result, Ok, Err}
 use Rattle.laws.specs.Pick.{pick, among}
 use Rattle.codec.specs.Bytes.{Bytes}
 use Rattle.codec.specs.declared.refusal.Refusal.{Refusal}
 use Rattle.codec.specs.declared.sequence.ReceiveConnState.{ReceiveConnState}
 use Rattle.codec.specs.declared.sequence.SendConnState.{SendConnState}
 use Rattle.codec.specs.declared.sequence.SequenceLayerHeader.{SequenceLayerHeader}
-use Rattle.codec.specs.declared.sequence.SequenceRead.{SequenceRead}
 
 -- the number of each state
 abbrev pub receive_conn_number : ReceiveConnState → ℕ
@@ -51,11 +50,11 @@ header_of octet0 octet1 =
     }
 
 -- what reading a header from the start of the bytes finds
-unfoldable pub sequence_read : Bytes → SequenceRead
+unfoldable pub sequence_read : Bytes → Result SequenceLayerHeader Refusal
 sequence_read b =
     pick (ltb (length b) 4)
-    (SequenceRead.Refused Refusal.BufferTooShort)
-    (SequenceRead.Header (header_of (get_or b 0 0) (get_or b 1 0)))
+    (Err Refusal.BufferTooShort)
+    (Ok (header_of (get_or b 0 0) (get_or b 1 0)))
 
 -- the four bytes that a header is written as
 abbrev pub sequence_bytes : SequenceLayerHeader → Bytes

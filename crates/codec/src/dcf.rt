@@ -5,41 +5,40 @@ ghost use Rattle.codec.specs.Dcf.{dcf_count, dcf_step};
 use crate::octets::{le16_at, le32_at};
 use crate::refusal::Refusal;
 
-#[derive(Clone, Copy)]
-pub enum DcfCount {
-    Count(u32),
-    Refused(Refusal),
-}
-
 // Where the next entry begins, and how many are still counted. The first entry's cursor is at 4, with the count left.
-#[derive(Clone, Copy)]
+#[derive(Clone, Copy, PartialEq, Eq)]
 pub struct DcfCursor {
     pub at: usize,
     pub left: u32,
 }
 
-// What stands at a cursor: an entry, its data the len bytes from start on; none counted any more; or one that is not readable.
-#[derive(Clone, Copy)]
+// A transfer is a place: an entry or a write, which is sent as index, sub-index, 0 and its data, the len bytes from start on. The long
+// fields stand first: fields lie as they are written, and a connection holds one and is copied often.
+#[derive(Clone, Copy, PartialEq, Eq)]
+pub struct Transfer {
+    pub start: usize,
+    pub len: u32,
+    pub index: u16,
+    pub sub_index: u8,
+}
+
+// What stands at a cursor: an entry, and the cursor behind it; none counted any more; or one that is not readable.
+#[derive(Clone, Copy, PartialEq, Eq)]
 pub enum DcfStep {
-    Entry {
-        index: u16,
-        sub_index: u8,
-        start: usize,
-        len: u32,
-        next: DcfCursor,
-    },
+    Entry { entry: Transfer, next: DcfCursor },
     End,
     Unreadable,
 }
 
 // How many entries the DCF counts; 5 where it has under four bytes.
-pub fn dcf_count(b: &[u8]) -> DcfCount
+#[tactic(auto, using(laws::proofs::Picks::below, laws::proofs::Picks::not_below), unfolding(crate::specs::Dcf::dcf_count))]
+pub fn dcf_count(b: &[u8]) -> Result<u32, Refusal>
     ensures { result ≡ dcf_count b.now }
 {
     if b.len() < 4 {
-        return DcfCount::Refused(Refusal::DcfTooShort);
+        return Err(Refusal::DcfTooShort);
     }
-    DcfCount::Count(le32_at(b, 0))
+    Ok(le32_at(b, 0))
 }
 
 // The entry at a cursor, if one is still counted and its 7 bytes and its data lie within the bytes.
@@ -51,10 +50,7 @@ pub fn dcf_step(b: &[u8], c: DcfCursor) -> DcfStep
     if left == 0 {
         return DcfStep::End;
     }
-    if b.len() < at {
-        return DcfStep::Unreadable;
-    }
-    if b.len() - at < 7 {
+    if b.len() < at || b.len() - at < 7 {
         return DcfStep::Unreadable;
     }
     let start = at + 7;
@@ -63,11 +59,14 @@ pub fn dcf_step(b: &[u8], c: DcfCursor) -> DcfStep
     if b.len() - start < size {
         return DcfStep::Unreadable;
     }
-    DcfStep::Entry {
-        index: le16_at(b, at),
-        sub_index: b[at + 2],
+    let entry = Transfer {
         start,
         len,
+        index: le16_at(b, at),
+        sub_index: b[at + 2],
+    };
+    DcfStep::Entry {
+        entry,
         next: DcfCursor {
             at: start + size,
             left: left - 1,

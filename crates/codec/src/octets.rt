@@ -4,7 +4,6 @@ ghost use Rattle.codec.specs.Bytes.{le16_at, le32, le32_at, part_at, placed};
 ghost use Rattle.codec.specs.Writing.{put_answer, put_buffer};
 
 use crate::refusal::Refusal;
-use crate::sequence::Written;
 
 // A number of two parts, the low one first: two bytes, and two numbers of 16 or of 32 bits.
 pub fn joined16(low: u8, high: u8) -> u16
@@ -31,12 +30,7 @@ pub type FourOctets = [u8; 4];
 pub fn octets32(n: u32) -> FourOctets
     ensures { result ≡ le32 n }
 {
-    [
-        (n % 256) as u8,
-        (n / 256 % 256) as u8,
-        (n / 65536 % 256) as u8,
-        (n / 16777216 % 256) as u8,
-    ]
+    n.to_le_bytes()
 }
 
 // The number of two bytes at a place.
@@ -55,7 +49,7 @@ pub(crate) fn le32_at(b: &[u8], at: usize) -> u32
     joined32(le16_at(b, at), le16_at(b, at + 2))
 }
 
-// Puts the bytes of src into buffer, from at on.
+// Puts the bytes of src into buffer, from at on, one by one: `copy_from_slice` calls C's memmove, and the static library stands alone.
 pub(crate) fn put_bytes(buffer: &mut [u8], at: usize, src: &[u8])
     requires { at + length src.now ≤ length buffer.old }
     ensures { buffer.new ≡ placed buffer.old at src.now }
@@ -66,31 +60,25 @@ pub(crate) fn put_bytes(buffer: &mut [u8], at: usize, src: &[u8])
 }
 
 // Puts the bytes of src into the buffer from a place on, and leaves the rest as it was; 1, and nothing is put, where they go past it.
-pub fn put(buffer: &mut [u8], at: usize, src: &[u8]) -> Written
+pub fn put(buffer: &mut [u8], at: usize, src: &[u8]) -> Result<usize, Refusal>
     ensures value { result ≡ put_answer buffer.old at src.now }
     ensures buffer_after { buffer.new ≡ put_buffer buffer.old at src.now }
 {
-    if buffer.len() < at {
-        return Written::Refused(Refusal::BufferTooShort);
-    }
-    if buffer.len() - at < src.len() {
-        return Written::Refused(Refusal::BufferTooShort);
+    if buffer.len() < at || buffer.len() - at < src.len() {
+        return Err(Refusal::BufferTooShort);
     }
     put_bytes(buffer, at, src);
-    Written::Bytes(src.len())
+    Ok(src.len())
 }
 
 // The part of len bytes that starts at a place: a command's payload, a request's data or a DCF entry's data, where its reader found
 // it. One that does not lie within the bytes comes back empty.
+#[tactic(auto, using(crate::proofs::ReadCases::part_outside, crate::proofs::ReadCases::part_inside))]
 pub fn part(b: &[u8], start: usize, len: usize) -> &[u8]
     ensures { result.now ≡ part_at b.now start len }
 {
-    if b.len() < start {
-        return &b[0..0];
+    if b.len() < start || b.len() - start < len {
+        return &[];
     }
-    if b.len() - start < len {
-        return &b[0..0];
-    }
-    let end = start + len;
-    &b[start..end]
+    &b[start..start + len]
 }

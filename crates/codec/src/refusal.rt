@@ -2,36 +2,26 @@
 ghost use Rattle.std.specs.Prelude.{◌≡◌};
 ghost use Rattle.codec.specs.Refusals.{refusal_number};
 
-#[derive(Clone, Copy)]
+// Each refusal has the number that it is told by outside.
+#[derive(Clone, Copy, PartialEq, Eq)]
 pub enum Refusal {
-    BufferTooShort,
-    InvalidEnumValue,
-    SdoInvalidCommandPayload,
-    Busy,
-    DcfTooShort,
-    TableFull,
-    NoRoom,
-    DeadlineRange,
-    WrongStore,
-    BadRecord,
-    ShortRecord,
+    BufferTooShort = 1,
+    InvalidEnumValue = 2,
+    SdoInvalidCommandPayload = 3,
+    Busy = 4,
+    DcfTooShort = 5,
+    TableFull = 6,
+    NoRoom = 7,
+    DeadlineRange = 8,
+    WrongStore = 9,
+    BadRecord = 10,
+    ShortRecord = 11,
 }
 
-// The number that a refusal is told by outside.
-pub fn refusal_number(r: Refusal) -> u8
-    ensures { result ≡ refusal_number r }
-{
-    match r {
-        Refusal::BufferTooShort => 1,
-        Refusal::InvalidEnumValue => 2,
-        Refusal::SdoInvalidCommandPayload => 3,
-        Refusal::Busy => 4,
-        Refusal::DcfTooShort => 5,
-        Refusal::TableFull => 6,
-        Refusal::NoRoom => 7,
-        Refusal::DeadlineRange => 8,
-        Refusal::WrongStore => 9,
-        Refusal::BadRecord => 10,
-        Refusal::ShortRecord => 11,
+impl From<Refusal> for u8 {
+    ghost from_gives = { λ r number. number ≡ refusal_number r };
+
+    fn from(r: Refusal) -> u8 {
+        r as u8
     }
 }

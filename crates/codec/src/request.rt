@@ -13,20 +13,14 @@ ghost use Rattle.codec.specs.Request.{
 use crate::octets::{le16_at, le32_at};
 use crate::refusal::Refusal;
 
-#[derive(Clone, Copy)]
+#[derive(Clone, Copy, PartialEq, Eq)]
 pub struct ReadByIndexRequest {
     pub index: u16,
     pub sub_index: u8,
 }
 
-#[derive(Clone, Copy)]
-pub enum ReadByIndexRead {
-    Request(ReadByIndexRequest),
-    Refused(Refusal),
-}
-
 // The data are the len bytes of the payload from start on.
-#[derive(Clone, Copy)]
+#[derive(Clone, Copy, PartialEq, Eq)]
 pub struct WriteByIndexRequest {
     pub index: u16,
     pub sub_index: u8,
@@ -34,93 +28,61 @@ pub struct WriteByIndexRequest {
     pub len: usize,
 }
 
-#[derive(Clone, Copy)]
-pub enum WriteByIndexRead {
-    Request(WriteByIndexRequest),
-    Refused(Refusal),
-}
-
 // The data are the len bytes of the payload from start on.
-#[derive(Clone, Copy)]
+#[derive(Clone, Copy, PartialEq, Eq)]
 pub struct WriteAllByIndexRequest {
     pub index: u16,
     pub start: usize,
     pub len: usize,
 }
 
-#[derive(Clone, Copy)]
-pub enum WriteAllByIndexRead {
-    Request(WriteAllByIndexRequest),
-    Refused(Refusal),
-}
-
-#[derive(Clone, Copy)]
-pub enum ReadMultipleParamRead {
-    Entries(usize),
-    Refused(Refusal),
-}
-
-#[derive(Clone, Copy)]
+#[derive(Clone, Copy, PartialEq, Eq)]
 pub struct MultipleParamEntry {
     pub index: u16,
     pub sub_index: u8,
 }
 
-#[derive(Clone, Copy)]
-pub enum MultipleParamFound {
-    Entry(MultipleParamEntry),
-    NoneSuch,
-}
-
-// The code of an abort, or none where its payload has under four bytes.
-#[derive(Clone, Copy)]
-pub enum AbortCode {
-    Code(u32),
-    NoCode,
-}
-
+#[tactic(auto, using(laws::proofs::Picks::below, laws::proofs::Picks::not_below))]
 impl ReadByIndexRequest {
     // The index and sub-index that a ReadByIndex asks for; 3 where the payload has under four bytes.
-    pub fn from_payload(payload: &[u8]) -> ReadByIndexRead
+    pub fn from_payload(payload: &[u8]) -> Result<ReadByIndexRequest, Refusal>
         ensures { result ≡ read_by_index payload.now }
     {
         if payload.len() < 4 {
-            return ReadByIndexRead::Refused(Refusal::SdoInvalidCommandPayload);
+            return Err(Refusal::SdoInvalidCommandPayload);
         }
-        ReadByIndexRead::Request(ReadByIndexRequest {
+        Ok(ReadByIndexRequest {
             index: le16_at(payload, 0),
             sub_index: payload[2],
         })
     }
 }
 
+#[tactic(auto, using(laws::proofs::Picks::below, laws::proofs::Picks::not_below))]
 impl WriteByIndexRequest {
     // The index and sub-index that a WriteByIndex is for, and where its data lie; 3 where the payload has under four bytes.
-    pub fn from_payload(payload: &[u8]) -> WriteByIndexRead
+    pub fn from_payload(payload: &[u8]) -> Result<WriteByIndexRequest, Refusal>
         ensures { result ≡ write_by_index payload.now }
     {
-        if payload.len() < 4 {
-            return WriteByIndexRead::Refused(Refusal::SdoInvalidCommandPayload);
-        }
-        WriteByIndexRead::Request(WriteByIndexRequest {
-            index: le16_at(payload, 0),
-            sub_index: payload[2],
+        let ReadByIndexRequest { index, sub_index } = ReadByIndexRequest::from_payload(payload)?;
+        Ok(WriteByIndexRequest {
+            index,
+            sub_index,
             start: 4,
             len: payload.len() - 4,
         })
     }
 }
 
+#[tactic(auto, using(laws::proofs::Picks::below, laws::proofs::Picks::not_below))]
 impl WriteAllByIndexRequest {
     // The index that a WriteAllByIndex is for, and where its data lie; 3 where the payload has under four bytes.
-    pub fn from_payload(payload: &[u8]) -> WriteAllByIndexRead
+    pub fn from_payload(payload: &[u8]) -> Result<WriteAllByIndexRequest, Refusal>
         ensures { result ≡ write_all_by_index payload.now }
     {
-        if payload.len() < 4 {
-            return WriteAllByIndexRead::Refused(Refusal::SdoInvalidCommandPayload);
-        }
-        WriteAllByIndexRead::Request(WriteAllByIndexRequest {
-            index: le16_at(payload, 0),
+        let ReadByIndexRequest { index, .. } = ReadByIndexRequest::from_payload(payload)?;
+        Ok(WriteAllByIndexRequest {
+            index,
             start: 4,
             len: payload.len() - 4,
         })
@@ -128,38 +90,41 @@ impl WriteAllByIndexRequest {
 }
 
 // How many entries a ReadMultipleParam asks for; 3 where the payload's length is no multiple of four.
-pub fn read_multiple_param(payload: &[u8]) -> ReadMultipleParamRead
+#[tactic(auto, using(laws::proofs::Picks::is, laws::proofs::Picks::is_not))]
+pub fn read_multiple_param(payload: &[u8]) -> Result<usize, Refusal>
     ensures { result ≡ read_multiple_param payload.now }
 {
     if payload.len() % 4 != 0 {
-        return ReadMultipleParamRead::Refused(Refusal::SdoInvalidCommandPayload);
+        return Err(Refusal::SdoInvalidCommandPayload);
     }
-    ReadMultipleParamRead::Entries(payload.len() / 4)
+    Ok(payload.len() / 4)
 }
 
 // The entry at a place, counted from 0, or none: past the last one, or where the payload is refused.
-pub fn multiple_param_entry(payload: &[u8], place: usize) -> MultipleParamFound
+#[tactic(auto, using(laws::proofs::Picks::is, laws::proofs::Picks::is_not, laws::proofs::Picks::below, laws::proofs::Picks::not_below))]
+pub fn multiple_param_entry(payload: &[u8], place: usize) -> Option<MultipleParamEntry>
     ensures { result ≡ multiple_param_entry payload.now place }
 {
     if payload.len() % 4 != 0 {
-        return MultipleParamFound::NoneSuch;
+        return None;
     }
     if payload.len() / 4 <= place {
-        return MultipleParamFound::NoneSuch;
+        return None;
     }
     let at = place * 4;
-    MultipleParamFound::Entry(MultipleParamEntry {
+    Some(MultipleParamEntry {
         index: le16_at(payload, at),
         sub_index: payload[at + 2],
     })
 }
 
 // The code that the payload of an abort has.
-pub fn abort_code(payload: &[u8]) -> AbortCode
+#[tactic(auto, using(laws::proofs::Picks::below, laws::proofs::Picks::not_below))]
+pub fn abort_code(payload: &[u8]) -> Option<u32>
     ensures { result ≡ abort_code payload.now }
 {
     if payload.len() < 4 {
-        return AbortCode::NoCode;
+        return None;
     }
-    AbortCode::Code(le32_at(payload, 0))
+    Some(le32_at(payload, 0))
 }

@@ -1,4 +1,3 @@
-pub mod Held
 pub mod Places
 pub mod Readable
 pub mod SuccessiveCalls

@@ -1,44 +1,35 @@
--- Steps one after another: an entry leaves the rest of them from behind it on, and where none is found the rest change nothing.
-use Prim.Native.Nat.{ℕ, zero, suc, ◌-◌, ◌<◌, ◌≤◌}
+-- Steps one after another: each from the place that the one before it left.
+use Prim.Native.Nat.{ℕ, zero, suc, ◌+◌, ◌-◌, ◌≤◌}
+use native.Mathlib.Nat.{add-zero}
+use Rattle.std.proofs.Common.{add-one}
 use native.Mathlib.Omega.{arith}
 use mathlib.Core.Path.{◌≡◌, refl, sym, ap, ◌∙◌}
 use Rattle.codec.specs.Bytes.{Bytes}
 use Rattle.codec.specs.Dcf.{dcf_step}
 use Rattle.codec.specs.declared.dcf.DcfCursor.{DcfCursor}
 use Rattle.codec_reader.specs.Place.{entry_of, first_place, past, stepped_from, place_after, place_of}
-use Rattle.codec_reader.specs.declared.place.Stepped.{Stepped}
+use Rattle.codec_reader.specs.declared.Stepped.{Stepped}
 
--- a step from a place, with m more to go from there to the n-th entry's
-pub record Reading (b : Bytes) (n : ℕ) (step : Stepped) (m : ℕ) : Type 0 where
-  pub place : DcfCursor
-  pub is : step ≡ stepped_from b place
-  pub to_go : place_after m b place ≡ place_of b n
+-- a step more
+pub one_more : (n : ℕ) (b : Bytes) (c : DcfCursor) → past (place_after n b c) (dcf_step b (place_after n b c)) ≡ place_after (suc n) b c
+one_more zero b c = refl
+one_more (suc n) b c = one_more n b (past c (dcf_step b c))
 
-pub begins : (b : Bytes) (n : ℕ) (step : Stepped) {first : DcfCursor} → first ≡ first_place b → step ≡ stepped_from b first → Reading b n step n
-begins b n step {first} e f = record { place = first; is = f; to_go = ap (place_after n b) e }
+-- the step after that to the n-th entry is that to the next one
+pub goes_on : (b : Bytes) (n : ℕ) (step next : Stepped) → step ≡ entry_of b n → next ≡ stepped_from b step.place → next ≡ entry_of b (n + 1)
+goes_on b n step next e f = f ∙ rw (e, one_more n b (first_place b), add-one)
 
-pub reached : (b : Bytes) (n : ℕ) (step : Stepped) (m : ℕ) → Reading b n step m → m ≤ 0 → step ≡ entry_of b n
-reached b n step m h z =
-    let e : 0 ≡ m = omega arith in h.is ∙ ap (stepped_from b) (ap (λ (k : ℕ). place_after k b h.place) e ∙ h.to_go)
+-- where no entry stands, more steps lead nowhere else
+still : (b : Bytes) (i k : ℕ) → past (place_of b i) (dcf_step b (place_of b i)) ≡ place_of b i → place_of b (i + k) ≡ place_of b i
+still b i zero same = rw add-zero
+still b i (suc k) same =
+    let e : i + suc k ≡ suc (i + k) = omega arith in
+    rw (e, ← one_more (i + k) b (first_place b), still b i k same) same
 
--- the place after a step is that of the next
-pub goes_on : (b : Bytes) (n : ℕ) (step next : Stepped) (m : ℕ) → Reading b n step m → 0 < m
-    → next ≡ stepped_from b (record { at = step.at; left = step.left }) → Reading b n next (m - 1)
-goes_on b n step next m h more e =
-    let f : suc (m - 1) ≡ m = omega arith in
-    record {
-      place = past h.place (dcf_step b h.place);
-      is = e ∙ rw h.is;
-      to_go = ap (λ (k : ℕ). place_after k b h.place) f ∙ h.to_go;
-    }
-
--- where no entry stands, steps lead nowhere else
-pub stays : (b : Bytes) (n : ℕ) (step : Stepped) (m : ℕ) → Reading b n step m → ((c : DcfCursor) → past c step.found ≡ c) → step ≡ entry_of b n
-stays b n step m h same = h.is ∙ ap (stepped_from b) (sym (all m) ∙ h.to_go)
-  where
-    here : past h.place (dcf_step b h.place) ≡ h.place
-    here = ap (λ (t : Stepped). past h.place t.found) (sym h.is) ∙ same h.place
-
-    all : (k : ℕ) → place_after k b h.place ≡ h.place
-    all zero = refl
-    all (suc k) = ap (place_after k b) here ∙ all k
+pub stays : (b : Bytes) (i n : ℕ) (step : Stepped) → step ≡ entry_of b i → ((c : DcfCursor) → past c step.found ≡ c) → i ≤ n
+    → step ≡ entry_of b n
+stays b i n step e same h =
+    let f : i + (n - i) ≡ n = omega arith in
+    let g : past (place_of b i) (dcf_step b (place_of b i)) ≡ place_of b i =
+    ap (λ (t : Stepped). past (place_of b i) t.found) (sym e) ∙ same (place_of b i) in
+    e ∙ ap (stepped_from b) (sym (still b i (n - i) g) ∙ rw f)

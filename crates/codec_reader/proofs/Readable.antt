@@ -1,5 +1,7 @@
 -- What `entry_of` finds is the n-th of the readable entries (document 01, "Bytes"), counted from 0; End and Unreadable mean that there are
 -- no more than n.
+use Rattle.std.specs.Prelude.{Result, Ok, Err}
+use Rattle.codec.specs.declared.refusal.Refusal.{Refusal}
 use Prim.Native.Nat.{ℕ, zero, suc, ◌+◌, ◌≤◌}
 use native.Mathlib.Omega.{arith}
 use mathlib.Core.Path.{◌≡◌, refl, sym, ap, ◌∙◌}
@@ -10,7 +12,6 @@ use borrow.Author.Tests.{lt-leb}
 use Rattle.laws.specs.Pick.{pick}
 use Rattle.codec.specs.Bytes.{Bytes}
 use Rattle.codec.specs.Dcf.{count_of, dcf_count, dcf_step, entries_from, readable_entries, sent_as}
-use Rattle.codec.specs.declared.dcf.DcfCount.{DcfCount}
 use Rattle.codec.specs.declared.dcf.DcfCursor.{DcfCursor}
 use Rattle.codec.specs.declared.dcf.DcfStep.{DcfStep}
 use Rattle.codec.proofs.Entries.{Stepped as Found, stepped, Counted, counted as counted-so}
@@ -18,8 +19,8 @@ use Rattle.codec_reader.specs.Place.{counted, first_place, past, place_after, pl
 
 -- a step's answer, of a list of entries: the first of them, whose data lie within the bytes; or that there is none
 abbrev pub First : Bytes → List Bytes → DcfStep → Type 0
-First b es (DcfStep.Entry index sub start len next) =
-    (es ≡ sent_as index sub (take len (drop start b)) ∷ drop 1 es) × (start + len ≤ length b)
+First b es (DcfStep.Entry entry next) =
+    (es ≡ sent_as entry.index entry.sub_index (take entry.len (drop entry.start b)) ∷ drop 1 es) × (entry.start + entry.len ≤ length b)
 First b es DcfStep.End = es ≡ []
 First b es DcfStep.Unreadable = es ≡ []
 
@@ -29,7 +30,7 @@ from b c = entries_from c.left b c.at
 
 -- one step leaves out the first entry, and n steps the first n
 one_step : (n : ℕ) (b : Bytes) (c : DcfCursor) (t : DcfStep) → Found b c.at c.left t → drop n (from b (past c t)) ≡ drop (suc n) (from b c)
-one_step n b c (DcfStep.Entry index sub start len next) h = rw h.0
+one_step n b c (DcfStep.Entry entry next) h = rw h.0
 one_step n b c DcfStep.End h = rw (h.0, drop-nil n)
 one_step n b c DcfStep.Unreadable h = rw (h.0, drop-nil n)
 
@@ -46,17 +47,17 @@ none b (suc k) h = rw (lt-leb (4 + 7) (length b) (omega arith))
 pub first : (b : Bytes) → from b (first_place b) ≡ readable_entries b
 first b = go (dcf_count b) (counted-so b)
   where
-    go : (k : DcfCount) → Counted b k → entries_from (counted k) b 4 ≡ readable_entries b
-    go (DcfCount.Count n) h = rw h.1
-    go (DcfCount.Refused r) h = sym (none b (count_of b) (omega arith))
+    go : (k : Result ℕ Refusal) → Counted b k → entries_from (counted k) b 4 ≡ readable_entries b
+    go (Ok n) h = rw h.1
+    go (Err r) h = sym (none b (count_of b) (omega arith))
 
 found : (b : Bytes) (c : DcfCursor) → First b (from b c) (dcf_step b c)
 found b c = go (dcf_step b c) (stepped b c)
   where
     go : (t : DcfStep) → Found b c.at c.left t → First b (from b c) t
-    go (DcfStep.Entry index sub start len next) h =
-        let entry = sent_as index sub (take len (drop start b)) in
-        (h.0 ∙ ap (λ (es : List Bytes). entry ∷ drop 1 es) (sym h.0), h.2)
+    go (DcfStep.Entry entry next) h =
+        let sent = sent_as entry.index entry.sub_index (take entry.len (drop entry.start b)) in
+        (h.0 ∙ ap (λ (es : List Bytes). sent ∷ drop 1 es) (sym h.0), h.2)
     go DcfStep.End h = h.0
     go DcfStep.Unreadable h = h.0
 

@@ -1,16 +1,16 @@
 -- Places in a concise DCF (document 01, "Bytes"), as codec's cursor has them: where the next entry begins, and how many are still counted.
-use Rattle.std.specs.Prelude.{ℕ, zero, suc}
+use Rattle.std.specs.Prelude.{ℕ, zero, suc, Result, Ok, Err}
+use Rattle.codec.specs.declared.refusal.Refusal.{Refusal}
 use Rattle.codec.specs.Bytes.{Bytes}
 use Rattle.codec.specs.Dcf.{dcf_count, dcf_step}
-use Rattle.codec.specs.declared.dcf.DcfCount.{DcfCount}
 use Rattle.codec.specs.declared.dcf.DcfCursor.{DcfCursor}
 use Rattle.codec.specs.declared.dcf.DcfStep.{DcfStep}
-use Rattle.codec_reader.specs.declared.place.Stepped.{Stepped}
+use Rattle.codec_reader.specs.declared.Stepped.{Stepped}
 
 -- how many entries a count says: none where the DCF is too short for one
-abbrev pub counted : DcfCount → ℕ
-counted (DcfCount.Count n) = n
-counted (DcfCount.Refused r) = 0
+abbrev pub counted : Result ℕ Refusal → ℕ
+counted (Ok n) = n
+counted (Err r) = 0
 
 -- the first entry's place
 abbrev pub first_place : Bytes → DcfCursor
@@ -18,13 +18,13 @@ first_place b = record { at = 4; left = counted (dcf_count b) }
 
 -- the place after a step from c: past an entry, and else where it was
 abbrev pub past : DcfCursor → DcfStep → DcfCursor
-past c (DcfStep.Entry index sub start len next) = next
+past c (DcfStep.Entry entry next) = next
 past c DcfStep.End = c
 past c DcfStep.Unreadable = c
 
 -- a step from c, and the place after it
 abbrev pub stepped_by : DcfCursor → DcfStep → Stepped
-stepped_by c found = record { found = found; at = (past c found).at; left = (past c found).left }
+stepped_by c found = record { found = found; place = past c found }
 
 abbrev pub stepped_from : Bytes → DcfCursor → Stepped
 stepped_from b c = stepped_by c (dcf_step b c)

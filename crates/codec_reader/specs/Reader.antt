@@ -2,22 +2,18 @@
 use Rattle.std.specs.Prelude.{List, ℕ}
 use Rattle.std.specs.Borrow.{Bor}
 use Rattle.codec.specs.Dcf.{dcf_step}
-use Rattle.codec.specs.declared.dcf.DcfCursor.{DcfCursor}
 use Rattle.codec.specs.declared.dcf.DcfStep.{DcfStep}
 use Rattle.codec_reader.specs.Place.{first_place, past}
 use Rattle.codec_reader.specs.declared.DcfReader.{DcfReader}
 
 -- a reader of a DCF, at its first entry
 abbrev pub reader_of : Bor (List ℕ) → DcfReader
-reader_of dcf = record { dcf = dcf; at = (first_place dcf.now).at; left = (first_place dcf.now).left }
+reader_of dcf = record { dcf = dcf; place = first_place dcf.now }
 
--- the place of a reader, and what stands there
-abbrev pub place_in : DcfReader → DcfCursor
-place_in r = record { at = r.at; left = r.left }
-
+-- what stands at a reader's place
 abbrev pub found_by : DcfReader → DcfStep
-found_by r = dcf_step r.dcf.now (place_in r)
+found_by r = dcf_step r.dcf.now r.place
 
 -- a reader after its next entry: the same DCF, past an entry, and else where it was
 abbrev pub moved_on : DcfReader → DcfReader
-moved_on r = record { dcf = r.dcf; at = (past (place_in r) (found_by r)).at; left = (past (place_in r) (found_by r)).left }
+moved_on r = record { dcf = r.dcf; place = past r.place (found_by r) }

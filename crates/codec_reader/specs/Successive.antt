@@ -16,7 +16,7 @@ after_calls (suc n) r = after_calls n (moved_on r)
 
 -- the entries that n calls find, one after another, each as the bytes that are sent: index, sub-index, 0, and the part of the DCF that is its data
 abbrev pub with_found : Bytes → DcfStep → List Bytes → List Bytes
-with_found b (DcfStep.Entry index sub start len next) more = sent_as index sub (part_at b start len) ∷ more
+with_found b (DcfStep.Entry entry next) more = sent_as entry.index entry.sub_index (part_at b entry.start entry.len) ∷ more
 with_found b DcfStep.End more = more
 with_found b DcfStep.Unreadable more = more
 
@@ -26,7 +26,7 @@ found_in (suc n) r = with_found r.dcf.now (found_by r) (found_in n (moved_on r))
 
 -- no entry any more: End exactly when all that are counted were read
 abbrev pub Stopped : Type 0 → DcfStep → Type 0
-Stopped all (DcfStep.Entry index sub start len next) = ⊥
+Stopped all (DcfStep.Entry entry next) = ⊥
 Stopped all DcfStep.End = all
 Stopped all DcfStep.Unreadable = all → ⊥
 

@@ -1,4 +1,5 @@
 -- What a repair answers and leaves in the output: each refusal, and the repaired DCF, put in two parts.
+use Rattle.std.specs.Prelude.{Result, Ok, Err}
 use Prim.Native.Nat.{ℕ, ◌+◌, ◌-◌, ◌<◌, ◌≤◌}
 use native.Mathlib.Omega.{arith}
 use mathlib.Core.Path.{◌≡◌, refl, sym, ap, subst, ◌∙◌}
@@ -9,32 +10,32 @@ use Rattle.laws.proofs.Picks.{below, beyond, not_below, within}
 use Rattle.codec.specs.Bytes.{Bytes, le32, part_at, placed}
 use Rattle.codec.specs.Dcf.{count_of, dcf_count, readable_entries}
 use Rattle.codec.specs.Writing.{buffer_after, put_buffer}
-use Rattle.codec.specs.declared.dcf.DcfCount.{DcfCount}
 use Rattle.codec.specs.declared.refusal.Refusal.{Refusal}
-use Rattle.codec.proofs.Entries.{Counted, counted}
+use Rattle.codec.proofs.Entries.{Counted, count_refused, counted}
 use Rattle.codec.proofs.WrittenBytes.{placed_length, placed_more, put_fits, write_placed, write_refused}
 use Rattle.codec_salvage.specs.Repair.{Octets}
 use Rattle.codec_salvage.specs.Salvage.{most_salvaged, output_after, repaired, salvaged, stored, told_of}
-use Rattle.codec_salvage.specs.declared.SalvageAnswer.{SalvageAnswer}
 use Rattle.codec_salvage.specs.declared.Salvaged.{Salvaged}
 use Rattle.codec_salvage.proofs.Stored.{all_lie}
 use Rattle.codec_salvage.proofs.Told.{no_longer, repaired_length}
 
 -- what the count's answer says of the bytes
-module _ (b : Bytes) {answer found : DcfCount} (e : answer ≡ dcf_count b) (g : answer ≡ found) where
+module _ (b : Bytes) {answer found : Result ℕ Refusal} (e : answer ≡ dcf_count b) (g : answer ≡ found) where
   pub count_says : Counted b found
   count_says = subst (Counted b) (sym e ∙ g) (counted b)
 
 module _ (b output : Bytes) where
   -- an answer, and the output with it
-  abbrev Answers : SalvageAnswer → Bytes → Type 0
+  abbrev Answers : Result Salvaged Refusal → Bytes → Type 0
   Answers answer after = (answer ≡ salvaged b output) × (after ≡ output_after b output)
 
-  pub short : length b < 4 → Answers (SalvageAnswer.Refused Refusal.DcfTooShort) output
+  pub short : {r : Refusal} {answer : Result ℕ Refusal} → answer ≡ dcf_count b → answer ≡ Err r → Answers (Err r) output
   unfolding salvaged output_after
-  short h = (below _ _ _ _ h refl, below _ _ _ _ h refl)
+  short e g =
+      let h : length b < 4 = count_says b e g in
+      (below _ _ _ _ h (ap Err (count_refused b (sym g ∙ e))), below _ _ _ _ h refl)
 
-  pub long : 4 ≤ length b → most_salvaged < length b → Answers (SalvageAnswer.Refused Refusal.NoRoom) output
+  pub long : 4 ≤ length b → most_salvaged < length b → Answers (Err Refusal.NoRoom) output
   unfolding salvaged output_after
   long h k = (not_below _ _ _ _ h (below _ _ _ _ k refl), not_below _ _ _ _ h (below _ _ _ _ k refl))
 
@@ -47,7 +48,7 @@ module _ (b output : Bytes) where
     unfolding told_of
     length_is = ap (λ (t : Salvaged). t.length) e
 
-    pub no_fit : length output < told.length → Answers (SalvageAnswer.Refused Refusal.BufferTooShort) output
+    pub no_fit : length output < told.length → Answers (Err Refusal.BufferTooShort) output
     unfolding salvaged output_after
     no_fit h =
         let k : length output < length (repaired b) = omega (arith, length_is) in (
@@ -60,11 +61,11 @@ module _ (b output : Bytes) where
         → (4 ≤ length b) × (told.new_count ≡ length (readable_entries b)) × (told.length ≡ length (repaired b)) × (told.length ≤ length output)
     asked fits = (enough, new_count_is, length_is, fits)
 
-    pub done : (after : Bytes) → told.length ≤ length output → after ≡ buffer_after (repaired b) output → Answers (SalvageAnswer.Salvaged told) after
+    pub done : (after : Bytes) → told.length ≤ length output → after ≡ buffer_after (repaired b) output → Answers (Ok told) after
     unfolding salvaged output_after
     done after h f =
         let k : length (repaired b) ≤ length output = omega (arith, length_is) in (
-          not_below _ _ _ _ enough (not_below _ _ _ _ most (within _ _ _ _ k (ap SalvageAnswer.Salvaged e))),
+          not_below _ _ _ _ enough (not_below _ _ _ _ most (within _ _ _ _ k (ap Ok e))),
           not_below _ _ _ _ enough (not_below _ _ _ _ most f),
         )
 

@@ -1,4 +1,5 @@
 -- What is told of a repair, by where a reader of the DCF stops.
+use Rattle.std.specs.Prelude.{Option}
 use Prim.Native.Nat.{ℕ, ◌+◌, ◌-◌, ◌≤◌}
 use native.Mathlib.Omega.{arith}
 use mathlib.Core.Path.{◌≡◌, sym, ap, ◌∙◌}
@@ -8,10 +9,9 @@ use mir.Val.{Fits}
 use Rattle.codec.specs.Bytes.{Bytes}
 use Rattle.codec.specs.Dcf.{count_of, readable_entries}
 use Rattle.codec_reader.specs.Place.{entry_of}
-use Rattle.codec_reader.specs.declared.place.Stepped.{Stepped}
+use Rattle.codec_reader.specs.declared.Stepped.{Stepped}
 use Rattle.codec_salvage.specs.Repair.{Octets}
 use Rattle.codec_salvage.specs.Salvage.{first_of, repaired, stored, told_of}
-use Rattle.codec_salvage.specs.declared.FirstDropped.{FirstDropped}
 use Rattle.codec_salvage.proofs.Stop.{stop}
 use Rattle.codec_salvage.proofs.Stored.{all_lie}
 
@@ -33,21 +33,21 @@ module _ (b : Bytes) (o : Octets b) {count : ℕ} (known : (4 ≤ length b) × (
   stopped : s ≡ entry_of b (count_of b)
   stopped = e ∙ ap (entry_of b) known.1
 
-  stops_at : s.at ≡ length (repaired b)
+  stops_at : s.place.at ≡ length (repaired b)
   stops_at = rw stopped ((stop b known.0).0 ∙ sym (repaired_length b))
 
-  left_counted : s.left + length (readable_entries b) ≡ count_of b
+  left_counted : s.place.left + length (readable_entries b) ≡ count_of b
   left_counted = rw stopped (stop b known.0).1
 
-  pub at_within : s.at ≤ length b
+  pub at_within : s.place.at ≤ length b
   at_within = rw stops_at (no_longer b o known.0)
 
-  pub left_within : s.left ≤ count
+  pub left_within : s.place.left ≤ count
   left_within = omega (arith, left_counted, known.1)
 
-  pub told : (first : FirstDropped) → first ≡ first_of (length b - s.at) s.at
-      → record { old_count = count; new_count = count - s.left; length = s.at; dropped = length b - s.at; first_dropped = first } ≡ told_of b
+  pub told : (first : Option ℕ) → first ≡ first_of (length b - s.place.at) s.place.at
+      → record { old_count = count; new_count = count - s.place.left; length = s.place.at; dropped = length b - s.place.at; first_dropped = first } ≡ told_of b
   unfolding told_of
   told first f =
-      let n : count - s.left ≡ length (readable_entries b) = omega (arith, left_counted, known.1) in
+      let n : count - s.place.left ≡ length (readable_entries b) = omega (arith, left_counted, known.1) in
       rw (n, f, known.1, stops_at)

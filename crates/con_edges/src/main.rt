@@ -2,19 +2,17 @@
 // writes is held to the file stdout, whose lines are the papers' numbers.
 #![tactic(auto)]
 
-use codec::command::{CommandId, CommandLayerHeader, DataSize, SdoCommand, Segmentation};
+use codec::command::{CommandId, CommandLayerHeader, SdoCommand, Segmentation};
 use codec::octets::part;
-use codec::refusal::refusal_number;
-use codec::sequence::{SequenceLayerHeader, SequenceRead, Written};
+use codec::refusal::Refusal;
+use codec::sequence::SequenceLayerHeader;
 use con_rec::payload::write_payload;
-use con_rec::{
-    EndFound, Mode, Now, Outgoing, Parameter, Reason, SdoClientConnection, Sends, Stepped, Taken,
-};
+use con_rec::{Mode, Now, Outgoing, Reason, SdoClientConnection, Step};
 use con_reply::reply::handle_response;
 use connection::ask::get_pending_request;
 use connection::start::{start_concise_dcf_job, start_read_job, start_write_job};
 use connection::tick::tick;
-use console::{number, small, text};
+use console::text;
 use std::io;
 
 mod totals;
@@ -22,37 +20,40 @@ mod totals;
 // The bytes of a command that goes out: sequence header, command.
 fn frame(rt: &impl Print, o: Outgoing, room: &[u8]) -> io::Result<()> {
     let mut payload = [0u8; 1452];
-    let Written::Bytes(n) = write_payload(o, room, &mut payload) else {
+    let Ok(n) = write_payload(o, room, &mut payload) else {
         return Ok(());
     };
     console::frame(rt, o.sequence(), o.command(), part(&payload, 0, n))
+}
+
+// A refusal's number, and the connection as it was.
+fn refused(rt: &impl Print, r: Refusal, c: SdoClientConnection) -> io::Result<SdoClientConnection> {
+    let number = u8::from(r);
+    println!(rt; "{number}")?;
+    Ok(c)
 }
 
 // What ask or tick gave, on a line: the frame, `-` for nothing, or the refusal's number.
 fn show(
     rt: &impl Print,
     what: &[u8],
-    s: Stepped,
+    s: Result<Step, Refusal>,
     c: SdoClientConnection,
     room: &[u8],
 ) -> io::Result<SdoClientConnection> {
     text(rt, what)?;
     match s {
-        Stepped::Went(step) => {
+        Ok(step) => {
             let sends = step.sends;
             let after = step.connection;
             match sends {
-                Sends::Gives(o) => frame(rt, o, room)?,
-                Sends::Silent => text(rt, b"-")?,
+                Some(o) => frame(rt, o, room)?,
+                None => text(rt, b"-")?,
             }
-            text(rt, b"\n")?;
+            println!(rt)?;
             Ok(after)
         }
-        Stepped::Refused(r) => {
-            small(rt, refusal_number(r))?;
-            text(rt, b"\n")?;
-            Ok(c)
-        }
+        Err(r) => refused(rt, r, c),
     }
 }
 
@@ -60,74 +61,66 @@ fn show(
 fn came(
     rt: &impl Print,
     what: &[u8],
-    a: Taken,
+    a: Result<SdoClientConnection, Refusal>,
     c: SdoClientConnection,
 ) -> io::Result<SdoClientConnection> {
     text(rt, what)?;
     match a {
-        Taken::Connection(after) => {
-            text(rt, b"0\n")?;
+        Ok(after) => {
+            println!(rt; "0")?;
             Ok(after)
         }
-        Taken::Refused(r) => {
-            small(rt, refusal_number(r))?;
-            text(rt, b"\n")?;
-            Ok(c)
-        }
+        Err(r) => refused(rt, r, c),
     }
 }
 
-fn letter(rt: &impl Print, r: Reason) -> io::Result<()> {
+fn letter(r: Reason) -> char {
     match r {
-        Reason::Complete => text(rt, b"C"),
-        Reason::Cut => text(rt, b"X"),
-        Reason::OpenRefused => text(rt, b"O"),
-        Reason::Sequence => text(rt, b"S"),
-        Reason::PeerAborted(_) => text(rt, b"P"),
-        Reason::Timeout => text(rt, b"T"),
-        Reason::BadSegment => text(rt, b"U"),
+        Reason::Complete => 'C',
+        Reason::Cut => 'X',
+        Reason::OpenRefused => 'O',
+        Reason::Sequence => 'S',
+        Reason::PeerAborted(_) => 'P',
+        Reason::Timeout => 'T',
+        Reason::BadSegment => 'U',
     }
 }
 
 // The end, as node:letter:delivered, or `-`.
 pub(crate) fn end(rt: &impl Print, c: SdoClientConnection) -> io::Result<()> {
-    text(rt, b"end ")?;
     match c.end() {
-        EndFound::End(e) => {
+        Some(e) => {
             let reason = e.reason;
-            small(rt, e.node)?;
-            text(rt, b":")?;
-            letter(rt, reason)?;
-            text(rt, b":")?;
-            number(rt, e.delivered as u64)?;
+            let (node, letter, delivered) = (e.node, letter(reason), e.delivered);
+            println!(rt; "end {node}:{letter}:{delivered}")
         }
-        EndFound::Running => text(rt, b"-")?,
+        None => println!(rt; "end -"),
     }
-    text(rt, b"\n")
 }
 
 pub(crate) fn absent(time: u64) -> Now {
     Now {
         time,
-        timeout: Parameter::Absent,
-        retries: Parameter::Absent,
+        timeout: None,
+        retries: None,
     }
 }
 
 fn with_retries(time: u64, n: u32) -> Now {
     Now {
         time,
-        timeout: Parameter::Absent,
-        retries: Parameter::Present(n),
+        timeout: None,
+        retries: Some(n),
     }
 }
 
-// A reply as the replay has it: two sequence octets, command Nil, no data.
-pub(crate) fn replied(c: SdoClientConnection, octet0: u8, octet1: u8, room: &mut [u8]) -> Taken {
-    let octets = [octet0, octet1, 0, 0];
-    let SequenceRead::Header(seq) = SequenceLayerHeader::deserialize(&octets) else {
-        return Taken::Connection(c);
-    };
+// A reply as the replay has it: two sequence octets, which are alike here, command Nil, no data.
+pub(crate) fn replied(
+    c: SdoClientConnection,
+    octet: u8,
+    room: &mut [u8],
+) -> Result<SdoClientConnection, Refusal> {
+    let seq = SequenceLayerHeader::deserialize(&[octet, octet, 0, 0])?;
     let cmd = SdoCommand {
         header: CommandLayerHeader {
             transaction_id: 0,
@@ -137,20 +130,18 @@ pub(crate) fn replied(c: SdoClientConnection, octet0: u8, octet1: u8, room: &mut
             command_id: CommandId::Nil,
             segment_size: 0,
         },
-        data_size: DataSize::Absent,
+        data_size: None,
     };
-    let none = [0u8; 0];
-    handle_response(c, seq, cmd, &none, room)
+    handle_response(c, seq, cmd, &[], room)
 }
 
 fn reply(
     rt: &impl Print,
     c: SdoClientConnection,
-    octet0: u8,
-    octet1: u8,
+    octet: u8,
     room: &mut [u8],
 ) -> io::Result<SdoClientConnection> {
-    came(rt, b"reply ", replied(c, octet0, octet1, room), c)
+    came(rt, b"reply ", replied(c, octet, room), c)
 }
 
 // Document 01's five records.
@@ -160,9 +151,9 @@ fn run(rt: &impl Print) -> io::Result<()> {
     let bytes = [0x01, 0x04];
     let c = came(rt, b"write ", write_of(new, &bytes, &mut room), new)?;
     let c = show(rt, b"ask ", get_pending_request(c, absent(0)), c, &room)?;
-    let c = reply(rt, c, 0x01, 0x01, &mut room)?;
+    let c = reply(rt, c, 0x01, &mut room)?;
     let c = show(rt, b"ask ", get_pending_request(c, absent(0)), c, &room)?;
-    let c = reply(rt, c, 0x06, 0x06, &mut room)?;
+    let c = reply(rt, c, 0x06, &mut room)?;
     end(rt, c)
 }
 
@@ -210,7 +201,11 @@ fn repeats(rt: &impl Print) -> io::Result<()> {
 }
 
 // A write of 2100:01 as the first start of a connection's.
-fn write_of(c: SdoClientConnection, data: &[u8], room: &mut [u8]) -> Taken {
+fn write_of(
+    c: SdoClientConnection,
+    data: &[u8],
+    room: &mut [u8],
+) -> Result<SdoClientConnection, Refusal> {
     start_write_job(c, Mode::Repository, 0x2100, 1, data, 1, absent(0), room)
 }
 

@@ -2,9 +2,10 @@
 -- bytes, each once.
 use Prim.Native.Nat.{ℕ, zero, suc, ◌+◌, ◌-◌, ◌*◌, ◌≤◌}
 use native.Mathlib.Omega.{arith}
-use mathlib.Core.Path.{◌≡◌, refl, sym, ◌∙◌}
+use mathlib.Core.Path.{◌≡◌, sym, ◌∙◌}
 use mathlib.Core.List.{List, [], ◌∷◌}
 use lib.ListN.{length, drop, length-drop, take-append-drop}
+use Rattle.std.proofs.lemmas.List.{nil_from_length}
 use Rattle.codec.specs.Bytes.{Bytes}
 use Rattle.con_rec.specs.Parts.{wire, total, part_length}
 use Rattle.con_rec.specs.PartsOf.{Part, cut_at, joined_up, later_count, later_parts, lengths, parts_of}
@@ -21,12 +22,8 @@ lengths_total mode total =
     rw (later_lengths (later_count (total - part_length total)) (total - part_length total) (omega arith)) (omega arith)
 
 -- ---- cut and joined
-none_left : (b : Bytes) → 0 ≡ length b → [] ≡ b
-none_left [] e = refl
-none_left (x ∷ b) e = absurd (omega (arith, e))
-
 cut_joined : (ps : List Part) (b : Bytes) → lengths ps ≡ length b → joined_up (cut_at ps b) ≡ b
-cut_joined [] b e = none_left b e
+cut_joined [] b e = sym (nil_from_length b (sym e))
 cut_joined (p ∷ ps) b e =
     rw (cut_joined ps (drop p.length b) (rw length-drop (omega (arith, e)))) (take-append-drop p.length b)
 

@@ -1,6 +1,7 @@
--- A payload is written by which command it goes with: none, a few octets, or a part of a transfer. A part is written in two: what falls
+-- A payload is written by which command it goes with: a few octets, or a part of a transfer. A part is written in two: what falls
 -- on the four bytes ahead, and what falls on the data.
-use Prim.Native.Nat.{ℕ, ◌+◌, ◌-◌, ◌<◌, ◌≤◌}
+use Rattle.std.specs.Prelude.{Result, Ok}
+use Prim.Native.Nat.{ℕ, ◌+◌, ◌-◌, ◌≤◌}
 use native.Mathlib.Omega.{arith}
 use mathlib.Core.Path.{◌≡◌, refl, sym, ap, ◌∙◌}
 use mathlib.Core.List.{[], ◌++◌}
@@ -9,29 +10,24 @@ use Rattle.laws.proofs.Lists.{take_drop_append}
 use Rattle.codec.specs.Bytes.{Bytes}
 use Rattle.codec.specs.Dcf.{sent_as}
 use Rattle.codec.specs.Writing.{written, buffer_after, put_answer, put_buffer}
-use Rattle.codec.proofs.WrittenBytes.{put_fits, put_front, placed_more, write_done, write_placed, write_refused}
+use Rattle.codec.proofs.WrittenBytes.{put_fits, put_front, placed_more, write_placed}
 use Rattle.codec.specs.declared.refusal.Refusal.{Refusal}
-use Rattle.codec.specs.declared.sequence.Written.{Written}
 use Rattle.con_rec.specs.Payload.{bytes_from, payload_from}
 use Rattle.con_rec.specs.Types.{Message, Transfer}
 
 -- an answer and an output as they are after a write
-abbrev pub Writes : Bytes → Bytes → Written → Bytes → Type 0
+abbrev pub Writes : Bytes → Bytes → Result ℕ Refusal → Bytes → Type 0
 Writes bytes output answer after = (answer ≡ written bytes output) × (after ≡ buffer_after bytes output)
 
-module _ (output : Bytes) where
-  pub none_written : Writes [] output (Written.Bytes 0) output
-  none_written = write_done [] output 0 output refl (omega arith) refl
+module _ (output : Bytes) {answer : Result ℕ Refusal} {after : Bytes} where
+  pub octets_written : (bytes octets : Bytes) → octets ≡ bytes → answer ≡ put_answer output 0 octets → after ≡ put_buffer output 0 octets
+      → Writes bytes output answer after
+  octets_written bytes octets e f g = let p = put_front output octets in rw (← e) (f ∙ p.0, g ∙ p.1)
 
-  module _ {answer : Written} {after : Bytes} where
-    pub octets_written : (bytes octets : Bytes) → octets ≡ bytes → answer ≡ put_answer output 0 octets → after ≡ put_buffer output 0 octets
-        → Writes bytes output answer after
-    octets_written bytes octets e f g = let p = put_front output octets in rw (← e) (f ∙ p.0, g ∙ p.1)
-
-    -- what the message was found to be takes its place
-    pub found_written : (room : Bytes) {m found : Message} → m ≡ found → Writes (payload_from room found) output answer after
-        → Writes (payload_from room m) output answer after
-    found_written room e w = rw e w
+  -- what the message was found to be takes its place
+  pub found_written : (room : Bytes) {m found : Message} → m ≡ found → Writes (payload_from room found) output answer after
+      → Writes (payload_from room m) output answer after
+  found_written room e w = rw e w
 
 module _ (t : Transfer) (room : Bytes) (from n : ℕ) (octets head own rest : Bytes) (k m j : ℕ)
     (eo : octets ≡ sent_as t.index t.sub_index [])
@@ -47,13 +43,9 @@ module _ (t : Transfer) (room : Bytes) (from n : ℕ) (octets head own rest : By
   length_in_two : length (bytes_from room t from n) ≡ length head + length rest
   length_in_two = ap length in_two ∙ length-append head rest
 
-  pub part_refused : (output : Bytes) → length output < length head + length rest
-      → Writes (bytes_from room t from n) output (Written.Refused Refusal.BufferTooShort) output
-  part_refused output h = let l = length_in_two in write_refused _ _ (omega arith)
-
   pub part_written : (output first after : Bytes) → length head + length rest ≤ length output → length first ≡ length output
       → first ≡ put_buffer output 0 head → after ≡ put_buffer first (length head) rest
-      → Writes (bytes_from room t from n) output (Written.Bytes (length head + length rest)) after
+      → Writes (bytes_from room t from n) output (Ok (length head + length rest)) after
   part_written output first after h same ef ea =
       let l = length_in_two in
       let f : first ≡ _ = ef ∙ put_fits output head 0 (omega arith) in

@@ -11,25 +11,22 @@ use Rattle.con_rec.specs.PartsOf.{NoneFollows, Part, first_of, later_count, late
 use Rattle.con_rec.specs.Types.{Mode, Segmentation}
 
 -- ---- kinds
-never_initiate : Segmentation.Initiate ≡ Segmentation.Expedited → ⊥
-never_initiate e = let z : ◌≡◌ {A = ℕ} 0 1 = cc e in omega arith
-
 -- what goes Expedited as a first part is at most the mode's limit
 pub expedited_within : (mode : Mode) (n : ℕ) → first_kind mode n ≡ Segmentation.Expedited → n ≤ limit mode
 expedited_within mode n =
     decided (λ (s : Segmentation). s ≡ Segmentation.Expedited → n ≤ limit mode) (goes_expedited mode n) _ _ (λ h e. leb-true _ _ h)
-    (λ h e. absurd (never_initiate e))
+    (λ h e. cc)
 
 -- a first part is no Complete, and a later one is not Expedited
 pub first_not_complete : (mode : Mode) (n : ℕ) → first_kind mode n ≡ Segmentation.Complete → ⊥
 first_not_complete mode n =
     either (λ (s : Segmentation). s ≡ Segmentation.Complete → ⊥) (goes_expedited mode n) _ _
-    (λ e. let z : ◌≡◌ {A = ℕ} 0 1 = cc e in omega arith) (λ e. let z : ◌≡◌ {A = ℕ} 0 1 = cc e in omega arith)
+    (λ e. cc) (λ e. cc)
 
 pub later_not_expedited : (n : ℕ) → later_kind n ≡ Segmentation.Expedited → ⊥
 later_not_expedited n =
     either (λ (s : Segmentation). s ≡ Segmentation.Expedited → ⊥) (leb n most) _ _
-    (λ e. let z : ◌≡◌ {A = ℕ} 0 1 = cc e in omega arith) (λ e. let z : ◌≡◌ {A = ℕ} 0 1 = cc e in omega arith)
+    (λ e. cc) (λ e. cc)
 
 -- ---- parts
 later_none : (k rest : ℕ) → NoneFollows (later_parts k rest)

@@ -1,28 +1,22 @@
 -- A transfer's bytes: how many they are, that they are the same in the room and in the job's own bytes, and how long a part is.
 use Prim.Native.Nat.{ℕ, ◌+◌, ◌-◌, ◌≤◌, min}
 use native.Mathlib.Omega.{arith}
-use mathlib.Core.Path.{◌≡◌, sym, ◌∙◌, ap}
+use mathlib.Core.Path.{◌≡◌, sym, ap}
 use mathlib.Core.List.{List}
 use lib.ListN.{length, take, drop, length-take, length-drop}
-use lib.Seq.{length-take-le, take-add, take_all, take-take, drop_at}
+use lib.Seq.{take_all, take-take}
+use Rattle.std.proofs.lemmas.List.{drop-take}
 use Rattle.codec.specs.Bytes.{Bytes}
 use Rattle.codec.specs.Dcf.{sent_as}
 use Rattle.con_rec.specs.Parts.{wire, total}
 use Rattle.con_rec.specs.Types.{Transfer}
-
--- the two ways to a part of a list
-part_of : {A : Type 0} (start n : ℕ) (l : List A) → start + n ≤ length l → drop start (take (start + n) l) ≡ take n (drop start l)
-part_of start n l h =
-    rw take-add (drop_at (take start l) (take n (drop start l)) start (length-take-le start l (omega arith)))
 
 -- a part that lies within the first bytes is theirs
 part_same : {A : Type 0} (start n size : ℕ) (l : List A) → start + n ≤ length (take size l)
     → take n (drop start l) ≡ take n (drop start (take size l))
 part_same start n size l h =
     let within : start + n ≤ min size (length l) = rw length-take at h in
-    sym (part_of start n l (omega arith))
-    ∙ ap (drop start) (sym (take-take (start + n) size l (omega arith)))
-    ∙ part_of start n (take size l) h
+    rw (← drop-take start n l, ← drop-take start n (take size l)) (ap (drop start) (sym (take-take (start + n) size l (omega arith))))
 
 pub wire_same : (room : Bytes) (size : ℕ) (t : Transfer) → t.start + t.len ≤ length (take size room)
     → wire room t ≡ wire (take size room) t

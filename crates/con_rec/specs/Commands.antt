@@ -1,10 +1,16 @@
 -- The commands that a connection sends (document 01, "The connection"): which one it is, with its place, and the numbers that it goes out
 -- with. Its sequence header and its command follow from these.
-use Rattle.std.specs.Prelude.{ℕ, ◌-◌, Bool, true, false}
+use Rattle.std.specs.Prelude.{ℕ, ◌-◌, Bool, true, false, Option, None}
+use Rattle.codec.specs.declared.request.ReadByIndexRequest.{ReadByIndexRequest}
+use Rattle.codec.specs.declared.sequence.SequenceLayerHeader.{SequenceLayerHeader}
+use Rattle.codec.specs.declared.dcf.Transfer.{Transfer}
+use Rattle.con_rec.specs.declared.SdoClientConnection.{SdoClientConnection}
+use Rattle.con_rec.specs.declared.Outgoing.{Outgoing}
+use Rattle.codec.specs.declared.command.CommandId.{CommandId}
+use Rattle.codec.specs.declared.command.SdoCommand.{SdoCommand}
 use Rattle.con_rec.specs.Parts.{total, part_length, first_kind, first_size, later_kind}
 use Rattle.con_rec.specs.Types.{
   CommandId,
-  DataSize,
   Message,
   Mode,
   Outgoing,
@@ -31,8 +37,8 @@ outgoing c message =
 abbrev pub opening_command : SdoClientConnection → Outgoing
 opening_command c = outgoing c Message.Opening
 
-abbrev pub read_command : SdoClientConnection → ℕ → ℕ → Outgoing
-read_command c index sub = outgoing c (Message.Read index sub)
+abbrev pub read_command : SdoClientConnection → ReadByIndexRequest → Outgoing
+read_command c q = outgoing c (Message.Read q)
 
 abbrev pub next_command : SdoClientConnection → Outgoing
 next_command c = outgoing c Message.Next
@@ -52,7 +58,7 @@ abort_command c = outgoing c (Message.Abort 0x05040000)
 -- abort's send state is NoConnection.
 abbrev pub receive_state : Message → ReceiveConnState
 receive_state Message.Opening = ReceiveConnState.NoConnection
-receive_state (Message.Read index sub) = ReceiveConnState.ConnectionValid
+receive_state (Message.Read q) = ReceiveConnState.ConnectionValid
 receive_state Message.Next = ReceiveConnState.ConnectionValid
 receive_state (Message.First t) = ReceiveConnState.ConnectionValid
 receive_state (Message.Later t sent) = ReceiveConnState.ConnectionValid
@@ -60,7 +66,7 @@ receive_state (Message.Abort code) = ReceiveConnState.ConnectionValid
 
 abbrev pub send_state : Message → SendConnState
 send_state Message.Opening = SendConnState.Initialization
-send_state (Message.Read index sub) = SendConnState.ConnectionValidAckRequest
+send_state (Message.Read q) = SendConnState.ConnectionValidAckRequest
 send_state Message.Next = SendConnState.ConnectionValidAckRequest
 send_state (Message.First t) = SendConnState.ConnectionValidAckRequest
 send_state (Message.Later t sent) = SendConnState.ConnectionValidAckRequest
@@ -75,7 +81,7 @@ sequence_of o =
       send_con = send_state o.message;
     }
 
-abbrev pub command_with : ℕ → Bool → Segmentation → CommandId → ℕ → DataSize → SdoCommand
+abbrev pub command_with : ℕ → Bool → Segmentation → CommandId → ℕ → Option ℕ → SdoCommand
 command_with transaction aborted kind id segment size =
     record {
       header =
@@ -94,17 +100,17 @@ command_with transaction aborted kind id segment size =
 -- An entry or a write is sent by WriteByIndex, in parts, cut by the job's mode. The abort command: a Nil command with the abort mark and a code of 4 bytes.
 abbrev pub command_by : Mode → Message → ℕ → SdoCommand
 command_by mode Message.Opening transaction =
-    command_with transaction false Segmentation.Expedited CommandId.Nil 0 DataSize.Absent
-command_by mode (Message.Read index sub) transaction =
-    command_with transaction false Segmentation.Expedited CommandId.ReadByIndex 4 DataSize.Absent
+    command_with transaction false Segmentation.Expedited CommandId.Nil 0 None
+command_by mode (Message.Read q) transaction =
+    command_with transaction false Segmentation.Expedited CommandId.ReadByIndex 4 None
 command_by mode Message.Next transaction =
-    command_with transaction false Segmentation.Segment CommandId.ReadByIndex 0 DataSize.Absent
+    command_with transaction false Segmentation.Segment CommandId.ReadByIndex 0 None
 command_by mode (Message.First t) transaction =
     command_with transaction false (first_kind mode (total t)) CommandId.WriteByIndex (part_length (total t)) (first_size mode (total t))
 command_by mode (Message.Later t sent) transaction =
-    command_with transaction false (later_kind (total t - sent)) CommandId.WriteByIndex (part_length (total t - sent)) DataSize.Absent
+    command_with transaction false (later_kind (total t - sent)) CommandId.WriteByIndex (part_length (total t - sent)) None
 command_by mode (Message.Abort code) transaction =
-    command_with transaction true Segmentation.Expedited CommandId.Nil 4 DataSize.Absent
+    command_with transaction true Segmentation.Expedited CommandId.Nil 4 None
 
 abbrev pub command_of : Outgoing → SdoCommand
 command_of o = command_by o.mode o.message o.transaction

@@ -1,21 +1,21 @@
 -- The parts of a transfer, for every total and in either mode (document 01, "Bytes"; document 02, CR 2): the first, and later ones until
 -- nothing remains.
-use Rattle.std.specs.Prelude.{ℕ, zero, suc, ◌+◌, ◌-◌, ◌/◌, ◌≡◌, List, [], ◌∷◌, ◌++◌, take, drop}
+use Rattle.std.specs.Prelude.{ℕ, zero, suc, ◌+◌, ◌-◌, ◌/◌, ◌≡◌, List, [], ◌∷◌, ◌++◌, take, drop, Option, None}
 use Rattle.codec.specs.Bytes.{Bytes}
 use Rattle.con_rec.specs.Commands.{command_of}
 use Rattle.con_rec.specs.Parts.{most, part_length, first_kind, first_size, later_kind}
-use Rattle.con_rec.specs.Types.{DataSize, Mode, Outgoing, Segmentation}
+use Rattle.con_rec.specs.Types.{Mode, Outgoing, Segmentation}
 
 pub record Part : Type 0 where
   pub kind : Segmentation
   pub length : ℕ
-  pub size : DataSize
+  pub size : Option ℕ
 
 abbrev pub first_of : Mode → ℕ → Part
 first_of mode total = record { kind = first_kind mode total; length = part_length total; size = first_size mode total }
 
 abbrev pub later_of : ℕ → Part
-later_of rest = record { kind = later_kind rest; length = part_length rest; size = DataSize.Absent }
+later_of rest = record { kind = later_kind rest; length = part_length rest; size = None }
 
 -- so many later parts, of the bytes that remain; and how many it takes: 1452 in each, rounded up
 abbrev pub later_parts : ℕ → ℕ → List Part

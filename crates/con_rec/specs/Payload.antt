@@ -12,7 +12,7 @@ bytes_from room t from n = take n (drop from (wire room t))
 
 abbrev pub payload_from : Bytes → Message → Bytes
 payload_from room Message.Opening = []
-payload_from room (Message.Read index sub) = sent_as index sub []
+payload_from room (Message.Read q) = sent_as q.index q.sub_index []
 payload_from room Message.Next = []
 payload_from room (Message.First t) = bytes_from room t 0 (part_length (total t))
 payload_from room (Message.Later t from) = bytes_from room t from (part_length (total t - from))

@@ -1,15 +1,12 @@
 -- The connection's record: a new one, one with some parts changed, and the end that it reports. New: transaction 0, send 0, last received
 -- 63 (document 01, "The connection").
-use Rattle.std.specs.Prelude.{ℕ, ◌+◌, eqb}
+use Rattle.std.specs.Prelude.{ℕ, ◌+◌, eqb, Option, Some, None}
+use Rattle.con_rec.specs.declared.SdoClientConnection.{SdoClientConnection}
+use Rattle.con_rec.specs.declared.End.{End}
+use Rattle.con_rec.specs.declared.Reason.{Reason}
 use Rattle.laws.specs.Pick.{pick}
 use Rattle.con_rec.specs.Types.{
-  Deadline,
-  EndFound,
-  LoadedTransfer,
   Mode,
-  Outcome,
-  Outstanding,
-  PendingRead,
   Reason,
   SdoClientConnection,
   SdoClientConnectionState,
@@ -19,7 +16,7 @@ use Rattle.con_rec.specs.Types.{
 
 -- no command outstanding, no deadline, no retries
 abbrev pub nothing_waits : Waiting
-nothing_waits = record { last_sent_command = Outstanding.Nothing; deadline = Deadline.Never; retries_left = 0 }
+nothing_waits = record { last_sent_command = None; deadline = None; retries_left = 0 }
 
 -- no job; nothing asks its mode
 abbrev pub no_job : SdoJob
@@ -27,9 +24,9 @@ no_job =
     record {
       size = 0;
       cursor = record { at = 0; left = 0 };
-      loaded = LoadedTransfer.Unloaded;
+      loaded = None;
       offset = 0;
-      pending_read = PendingRead.NoRead;
+      pending_read = None;
       uploaded = 0;
       delivered = 0;
       mode = Mode.Repository;
@@ -46,11 +43,11 @@ new_connection node room =
       last_received_sequence_number = 63;
       job = no_job;
       waiting = nothing_waits;
-      outcome = Outcome.Running;
+      outcome = None;
     }
 
 -- the same connection in another state, with other numbers, and so on: what a call changes of it
-abbrev pub updated : SdoClientConnection → SdoClientConnectionState → ℕ → ℕ → ℕ → SdoJob → Waiting → Outcome → SdoClientConnection
+abbrev pub updated : SdoClientConnection → SdoClientConnectionState → ℕ → ℕ → ℕ → SdoJob → Waiting → Option Reason → SdoClientConnection
 updated c state transaction send last job waiting outcome =
     record {
       target_node_id = c.target_node_id;
@@ -72,13 +69,13 @@ next_transaction t = pick (eqb t 255) 1 (t + 1)
 abbrev pub ended : SdoClientConnection → Reason → SdoClientConnection
 ended c why =
     updated c SdoClientConnectionState.Closed c.transaction_id c.send_sequence_number
-    c.last_received_sequence_number c.job nothing_waits (Outcome.Ended why)
+    c.last_received_sequence_number c.job nothing_waits (Some why)
 
 -- Ends are reported: node, reason, delivered.
-abbrev pub end_with : SdoClientConnection → Outcome → EndFound
-end_with c Outcome.Running = EndFound.Running
-end_with c (Outcome.Ended why) =
-    EndFound.End (record { node = c.target_node_id; reason = why; delivered = c.job.delivered })
+abbrev pub end_with : SdoClientConnection → Option Reason → Option End
+end_with c None = None
+end_with c (Some why) =
+    Some (record { node = c.target_node_id; reason = why; delivered = c.job.delivered })
 
-abbrev pub end_of : SdoClientConnection → EndFound
+abbrev pub end_of : SdoClientConnection → Option End
 end_of c = end_with c c.outcome

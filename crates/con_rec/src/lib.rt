@@ -1,14 +1,13 @@
 // One node's connection as a record, and the commands that it sends (document 01, "The connection" and "Bytes"): the parts that a transfer
 // is sent in, deadlines, headers and payloads. What the calls make of a record is in the crates connection and con_reply. The names are those of the
 // repository's client_connection.rs where it has them. The types stand here, at the root, since every check writes their names out.
-#![tactic(auto)]
+#![tactic(auto, unfolding(laws::specs::Pick::pick))]
 
 ghost use Rattle.std.specs.Prelude.{◌≡◌};
-ghost use Rattle.con_rec.specs.Record.{new_connection, end_of};
+ghost use Rattle.con_rec.specs.Record.{new_connection, ended, end_of};
 
-use codec::dcf::DcfCursor;
-use codec::refusal::Refusal;
-use codec::request::AbortCode;
+use codec::dcf::{DcfCursor, Transfer};
+use codec::request::ReadByIndexRequest;
 
 pub mod commands;
 pub mod deadlines;
@@ -16,43 +15,24 @@ pub mod numbers;
 pub mod parts;
 pub mod payload;
 
+// The numbers are those by which replay_states tells a state.
 #[derive(Clone, Copy)]
 pub enum SdoClientConnectionState {
-    Idle,
-    Opening,
-    Established,
-    UploadInit,
-    UploadInProgress,
-    DownloadInProgress,
-    Closed,
+    Idle = 0,
+    Opening = 1,
+    Established = 2,
+    UploadInit = 3,
+    UploadInProgress = 4,
+    DownloadInProgress = 5,
+    Closed = 6,
 }
 
-// A parameter of 32 bits, present or absent.
-#[derive(Clone, Copy)]
-pub enum Parameter {
-    Present(u32),
-    Absent,
-}
-
-// What a call is told: the time in microseconds, and the two parameters.
+// What a call is told: the time in microseconds, and the two parameters, each there or not.
 #[derive(Clone, Copy)]
 pub struct Now {
     pub time: u64,
-    pub timeout: Parameter,
-    pub retries: Parameter,
-}
-
-#[derive(Clone, Copy)]
-pub enum Deadline {
-    At(u64),
-    Never,
-}
-
-// A deadline to be set, where it fits.
-#[derive(Clone, Copy)]
-pub enum Moment {
-    At(u64),
-    OutOfRange,
+    pub timeout: Option<u32>,
+    pub retries: Option<u32>,
 }
 
 // Which rules a job follows where document 02 changes those of document 01: the repository's, or the published ones (CR 2). A start chooses it, and
@@ -63,34 +43,11 @@ pub enum Mode {
     Published,
 }
 
-// The read command of a job that reads.
-#[derive(Clone, Copy)]
-pub enum PendingRead {
-    Read { index: u16, sub_index: u8 },
-    NoRead,
-}
-
-// A transfer is a place: it is sent as index, sub-index, 0 and its data, the len bytes of the job from start on. The long fields stand
-// first, here and in the connection: fields lie as they are written, and a connection is copied often.
-#[derive(Clone, Copy)]
-pub struct Transfer {
-    pub start: usize,
-    pub len: u32,
-    pub index: u16,
-    pub sub_index: u8,
-}
-
-#[derive(Clone, Copy)]
-pub enum LoadedTransfer {
-    Loaded(Transfer),
-    Unloaded,
-}
-
 // Which command goes out, with its place: a read's object, a part's transfer and the bytes of it that went before, an abort's code.
 #[derive(Clone, Copy)]
 pub enum Message {
     Opening,
-    Read { index: u16, sub_index: u8 },
+    Read(ReadByIndexRequest),
     Next,
     First(Transfer),
     Later { transfer: Transfer, from: u64 },
@@ -107,13 +64,6 @@ pub struct Outgoing {
     pub message: Message,
 }
 
-// The command outstanding, kept for repeats.
-#[derive(Clone, Copy)]
-pub enum Outstanding {
-    Waits(Outgoing),
-    Nothing,
-}
-
 // Why a job ended.
 #[derive(Clone, Copy)]
 pub enum Reason {
@@ -121,15 +71,9 @@ pub enum Reason {
     Cut,
     OpenRefused,
     Sequence,
-    PeerAborted(AbortCode),
+    PeerAborted(Option<u32>),
     Timeout,
     BadSegment,
-}
-
-#[derive(Clone, Copy)]
-pub enum Outcome {
-    Running,
-    Ended(Reason),
 }
 
 // The job: how many bytes of the room are its own, where its next entry begins and how many are still counted, the transfer that is
@@ -139,23 +83,23 @@ pub enum Outcome {
 pub struct SdoJob {
     pub size: usize,
     pub cursor: DcfCursor,
-    pub loaded: LoadedTransfer,
+    pub loaded: Option<Transfer>,
     pub offset: u64,
-    pub pending_read: PendingRead,
+    pub pending_read: Option<ReadByIndexRequest>,
     pub uploaded: usize,
     pub delivered: u32,
     pub mode: Mode,
 }
 
-// What is waited for: a reply to the command outstanding, until the deadline, and so many repeats.
+// What is waited for: a reply to the command outstanding, which is kept for repeats, until the deadline, and so many repeats.
 #[derive(Clone, Copy)]
 pub struct Waiting {
-    pub last_sent_command: Outstanding,
-    pub deadline: Deadline,
+    pub last_sent_command: Option<Outgoing>,
+    pub deadline: Option<u64>,
     pub retries_left: u32,
 }
 
-// One node's connection. `room` is where its room starts in the store; only the manager looks at it.
+// One node's connection. `room` is where its room starts in the store; only the manager looks at it. `outcome` is why its job ended, once it has.
 #[derive(Clone, Copy)]
 pub struct SdoClientConnection {
     pub room: usize,
@@ -166,34 +110,14 @@ pub struct SdoClientConnection {
     pub last_received_sequence_number: u8,
     pub job: SdoJob,
     pub waiting: Waiting,
-    pub outcome: Outcome,
+    pub outcome: Option<Reason>,
 }
 
-// What ask or tick gives.
-#[derive(Clone, Copy)]
-pub enum Sends {
-    Gives(Outgoing),
-    Silent,
-}
-
+// The connection after an ask or a tick, and the command that goes out, if one does.
 #[derive(Clone, Copy)]
 pub struct Step {
     pub connection: SdoClientConnection,
-    pub sends: Sends,
-}
-
-// The answer of ask and tick.
-#[derive(Clone, Copy)]
-pub enum Stepped {
-    Went(Step),
-    Refused(Refusal),
-}
-
-// The answer of a start and of a reply.
-#[derive(Clone, Copy)]
-pub enum Taken {
-    Connection(SdoClientConnection),
-    Refused(Refusal),
+    pub sends: Option<Outgoing>,
 }
 
 // An end, as it is reported.
@@ -204,10 +128,27 @@ pub struct End {
     pub delivered: u32,
 }
 
-#[derive(Clone, Copy)]
-pub enum EndFound {
-    End(End),
-    Running,
+impl SdoJob {
+    // No job; nothing asks its mode.
+    pub const NONE: SdoJob = SdoJob {
+        size: 0,
+        cursor: DcfCursor { at: 0, left: 0 },
+        loaded: None,
+        offset: 0,
+        pending_read: None,
+        uploaded: 0,
+        delivered: 0,
+        mode: Mode::Repository,
+    };
+}
+
+impl Waiting {
+    // No command outstanding, no deadline, no retries.
+    pub const NOTHING: Waiting = Waiting {
+        last_sent_command: None,
+        deadline: None,
+        retries_left: 0,
+    };
 }
 
 impl SdoClientConnection {
@@ -222,38 +163,33 @@ impl SdoClientConnection {
             transaction_id: 0,
             send_sequence_number: 0,
             last_received_sequence_number: 63,
-            job: SdoJob {
-                size: 0,
-                cursor: DcfCursor { at: 0, left: 0 },
-                loaded: LoadedTransfer::Unloaded,
-                offset: 0,
-                pending_read: PendingRead::NoRead,
-                uploaded: 0,
-                delivered: 0,
-                mode: Mode::Repository,
-            },
-            waiting: Waiting {
-                last_sent_command: Outstanding::Nothing,
-                deadline: Deadline::Never,
-                retries_left: 0,
-            },
-            outcome: Outcome::Running,
+            job: SdoJob::NONE,
+            waiting: Waiting::NOTHING,
+            outcome: None,
+        }
+    }
+
+    // Closed, nothing waited for, for a reason.
+    pub fn ended(self, why: Reason) -> SdoClientConnection
+        ensures { result ≡ ended self why }
+    {
+        SdoClientConnection {
+            state: SdoClientConnectionState::Closed,
+            waiting: Waiting::NOTHING,
+            outcome: Some(why),
+            ..self
         }
     }
 
     // The end to report, where the job ended.
-    pub fn end(self) -> EndFound
+    pub fn end(self) -> Option<End>
         ensures { result ≡ end_of self }
     {
-        let outcome = self.outcome;
-        let job = self.job;
-        match outcome {
-            Outcome::Running => EndFound::Running,
-            Outcome::Ended(reason) => EndFound::End(End {
-                node: self.target_node_id,
-                reason,
-                delivered: job.delivered,
-            }),
-        }
+        let reason = self.outcome?;
+        Some(End {
+            node: self.target_node_id,
+            reason,
+            delivered: self.job.delivered,
+        })
     }
 }

@@ -6,7 +6,7 @@ ghost use Rattle.con_rec.specs.Record.{next_transaction};
 pub fn next_number(n: u8) -> u8
     ensures { result ≡ (n + 1) % 64 }
 {
-    ((n as u16 + 1) % 64) as u8
+    n.wrapping_add(1) % 64
 }
 
 // The transaction after this one: 255 goes to 1.
@@ -20,8 +20,5 @@ pub fn next_transaction(t: u8) -> u8
 pub fn at_most(n: usize, most: usize) -> usize
     ensures { result ≡ min n most }
 {
-    if n < most {
-        return n;
-    }
-    most
+    n.min(most)
 }

@@ -2,25 +2,28 @@
 ghost use Rattle.std.specs.Prelude.{◌≡◌, ◌-◌, ◌<◌, ◌≤◌};
 ghost use Rattle.con_rec.specs.Parts.{limit, goes_expedited, total, part_length, first_kind, first_size, later_kind};
 
-use crate::{Mode, Transfer};
-use codec::command::{DataSize, Segmentation};
+use crate::Mode;
+use codec::command::Segmentation;
+use codec::dcf::Transfer;
 
 const MAX_CLIENT_PAYLOAD: u64 = 1452;
 
 const MAX_EXPEDITED_TOTAL: u64 = 1456;
 
-// The largest total that goes Expedited.
-fn limit_of(mode: Mode) -> u64
-    ensures { result ≡ limit mode }
-{
-    match mode {
-        Mode::Repository => MAX_EXPEDITED_TOTAL,
-        Mode::Published => MAX_CLIENT_PAYLOAD,
+impl Mode {
+    // The largest total that goes Expedited.
+    fn limit(self) -> u64
+        ensures { result ≡ limit self }
+    {
+        match self {
+            Mode::Repository => MAX_EXPEDITED_TOTAL,
+            Mode::Published => MAX_CLIENT_PAYLOAD,
+        }
     }
 }
 
 // The bytes of a transfer as it is sent.
-pub fn total_of(t: Transfer) -> u64
+pub fn total(t: Transfer) -> u64
     ensures { (result ≡ total t) × (4 ≤ result) × (result < 4294967300) }
 {
     4 + t.len as u64
@@ -30,25 +33,21 @@ pub fn total_of(t: Transfer) -> u64
 pub fn rest_of(all: u64, sent: u64) -> u64
     ensures { result ≡ all - sent }
 {
-    if sent < all { all - sent } else { 0 }
+    all.saturating_sub(sent)
 }
 
 // The length of the next part.
 pub fn part_length(rest: u64) -> u16
     ensures { (result ≡ part_length rest) × (result ≤ 1452) × (result ≤ rest) }
 {
-    if rest < MAX_CLIENT_PAYLOAD {
-        rest as u16
-    } else {
-        MAX_CLIENT_PAYLOAD as u16
-    }
+    rest.min(MAX_CLIENT_PAYLOAD) as u16
 }
 
 // Whether a total goes out by an Expedited and not by an Initiate.
 fn goes_expedited(mode: Mode, n: u64) -> bool
     ensures { result ≡ goes_expedited mode n }
 {
-    n <= limit_of(mode)
+    n <= mode.limit()
 }
 
 // The kind of the first part of a total.
@@ -63,13 +62,13 @@ pub(crate) fn first_kind(mode: Mode, n: u64) -> Segmentation
 }
 
 // The data size that goes with the first part of a transfer.
-pub(crate) fn first_size(mode: Mode, t: Transfer) -> DataSize
+pub(crate) fn first_size(mode: Mode, t: Transfer) -> Option<u32>
     ensures { result ≡ first_size mode (total t) }
 {
-    if goes_expedited(mode, total_of(t)) {
-        DataSize::Absent
+    if goes_expedited(mode, total(t)) {
+        None
     } else {
-        DataSize::Present(t.len)
+        Some(t.len)
     }
 }
 

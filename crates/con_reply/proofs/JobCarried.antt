@@ -1,5 +1,9 @@
 -- What is carried from call to call of a job that sends: what was joined so far is the entries before, whole, and the sent part of the
 -- loaded one; the entries are these, the loaded one, and those that are readable from the cursor on.
+use Rattle.std.specs.Prelude.{Option, Some, None}
+use Rattle.codec.specs.declared.request.ReadByIndexRequest.{ReadByIndexRequest}
+use Rattle.codec.specs.declared.dcf.Transfer.{Transfer}
+use Rattle.con_rec.specs.declared.Reason.{Reason}
 use Prim.Native.Nat.{ℕ, ◌+◌, ◌≤◌}
 use mathlib.Core.Path.{◌≡◌, refl, ap, subst}
 use mathlib.Core.Bool.{Bool, true, false}
@@ -14,9 +18,6 @@ use Rattle.con_rec.specs.Parts.{wire}
 use Rattle.con_rec.specs.Record.{ended}
 use Rattle.connection.specs.Types.{
   DcfCursor,
-  LoadedTransfer,
-  Outcome,
-  PendingRead,
   Reason,
   SdoClientConnection as Connection,
   SdoClientConnectionState as State,
@@ -30,15 +31,15 @@ pub record Aim : Type 0 where
   pub count : ℕ
 
 -- the loaded transfer, and the part of it that was sent
-abbrev pub loaded : Bytes → LoadedTransfer → List Bytes
-loaded job LoadedTransfer.Unloaded = []
-loaded job (LoadedTransfer.Loaded t) = wire job t ∷ []
+abbrev pub loaded : Bytes → Option Transfer → List Bytes
+loaded job None = []
+loaded job (Some t) = wire job t ∷ []
 
-abbrev pub begun_of : Bytes → LoadedTransfer → ℕ → List Bytes
-begun_of job LoadedTransfer.Unloaded offset = []
-begun_of job (LoadedTransfer.Loaded t) offset = take offset (wire job t) ∷ []
+abbrev pub begun_of : Bytes → Option Transfer → ℕ → List Bytes
+begun_of job None offset = []
+begun_of job (Some t) offset = take offset (wire job t) ∷ []
 
-abbrev pub begun : Bytes → State → LoadedTransfer → ℕ → List Bytes
+abbrev pub begun : Bytes → State → Option Transfer → ℕ → List Bytes
 begun job State.Idle t offset = []
 begun job State.Opening t offset = []
 begun job State.Established t offset = []
@@ -52,9 +53,9 @@ abbrev pub rest : Bytes → DcfCursor → List Bytes
 rest job k = entries_from k.left job k.at
 
 -- where nothing is loaded, nothing can be read any more
-abbrev pub NoMore : Bytes → LoadedTransfer → DcfCursor → Type 0
-NoMore job LoadedTransfer.Unloaded k = rest job k ≡ []
-NoMore job (LoadedTransfer.Loaded t) k = Unit {0}
+abbrev pub NoMore : Bytes → Option Transfer → DcfCursor → Type 0
+NoMore job None k = rest job k ≡ []
+NoMore job (Some t) k = Unit {0}
 
 -- a write or a DCF that runs never comes to an upload, and is neither Idle nor Closed
 abbrev pub Sending : State → Type 0
@@ -66,8 +67,8 @@ Sending State.UploadInProgress = ⊥
 Sending State.DownloadInProgress = Unit {0}
 Sending State.Closed = ⊥
 
-pub record Carried (a : Aim) (got : List Bytes) (s : State) (t : LoadedTransfer) (offset : ℕ) (k : DcfCursor) (delivered : ℕ)
-    (read : PendingRead) (size : ℕ) : Type 0 where
+pub record Carried (a : Aim) (got : List Bytes) (s : State) (t : Option Transfer) (offset : ℕ) (k : DcfCursor) (delivered : ℕ)
+    (read : Option ReadByIndexRequest) (size : ℕ) : Type 0 where
   pub before : List Bytes
   pub joined : got ≡ before ++ begun a.job s t offset
   pub known : a.entries ≡ before ++ (loaded a.job t ++ rest a.job k)
@@ -78,7 +79,7 @@ pub record Carried (a : Aim) (got : List Bytes) (s : State) (t : LoadedTransfer)
   pub within : LiesIn (length a.job) t
   -- only because the figure has 32 bits
   pub few : length a.entries ≤ 4294967295
-  pub writes : read ≡ PendingRead.NoRead
+  pub writes : read ≡ None
   pub holds : take size a.room ≡ a.job
 
 -- of a connection, only these fields matter
@@ -88,7 +89,7 @@ Carries a got c =
     c.job.size
 
 -- the same in another state, with so much of the loaded transfer sent
-pub goes_on : {a : Aim} {got : List Bytes} {s : State} {t : LoadedTransfer} {offset : ℕ} {k : DcfCursor} {delivered : ℕ} {read : PendingRead}
+pub goes_on : {a : Aim} {got : List Bytes} {s : State} {t : Option Transfer} {offset : ℕ} {k : DcfCursor} {delivered : ℕ} {read : Option ReadByIndexRequest}
     {size : ℕ} (more : List Bytes) (next : State) (sent : ℕ) (j : Carried a got s t offset k delivered read size) → Sending next
     → more ≡ j.before ++ begun a.job next t sent → Carried a more next t sent k delivered read size
 goes_on more next sent j works e =
@@ -107,15 +108,15 @@ goes_on more next sent j works e =
     }
 
 -- what a call must leave: the same of the connection after it, or what demand 3 asks for where the job ended
-abbrev pub Leaves : Aim → List Bytes → Connection → Outcome → Type 0
-Leaves a got c Outcome.Running = Carries a got c
-Leaves a got c (Outcome.Ended why) = ForEnd a.entries a.count got why c.job.delivered
+abbrev pub Leaves : Aim → List Bytes → Connection → Option Reason → Type 0
+Leaves a got c None = Carries a got c
+Leaves a got c (Some why) = ForEnd a.entries a.count got why c.job.delivered
 
 unfoldable pub Left : Aim → List Bytes → Connection → Type 0
 Left a got c = Leaves a got c c.outcome
 
 -- the connection runs on, and the job ends
-pub leave : (a : Aim) (got : List Bytes) (c : Connection) → c.outcome ≡ Outcome.Running → Carries a got c → Left a got c
+pub leave : (a : Aim) (got : List Bytes) (c : Connection) → c.outcome ≡ None → Carries a got c → Left a got c
 unfolding Left
 leave a got c e i = rw e i
 
@@ -149,19 +150,19 @@ begins : (ws ps es : List Bytes) → Beginning ps es → Beginning (ws ++ ps) (w
 begins [] ps es h = h
 begins (w ∷ ws) ps es h = whole (begins ws ps es h)
 
-begun_begins : (job : Bytes) (s : State) (t : LoadedTransfer) (offset : ℕ) (more : List Bytes)
+begun_begins : (job : Bytes) (s : State) (t : Option Transfer) (offset : ℕ) (more : List Bytes)
     → Beginning (begun job s t offset) (loaded job t ++ more)
 begun_begins job State.Idle t offset more = nothing
 begun_begins job State.Opening t offset more = nothing
 begun_begins job State.Established t offset more = nothing
 begun_begins job State.UploadInit t offset more = nothing
 begun_begins job State.UploadInProgress t offset more = nothing
-begun_begins job State.DownloadInProgress LoadedTransfer.Unloaded offset more = nothing
-begun_begins job State.DownloadInProgress (LoadedTransfer.Loaded t) offset more = part offset refl
+begun_begins job State.DownloadInProgress None offset more = nothing
+begun_begins job State.DownloadInProgress (Some t) offset more = part offset refl
 begun_begins job State.Closed t offset more = nothing
 
-pub beginning : {a : Aim} {got : List Bytes} {s : State} {t : LoadedTransfer} {offset : ℕ} {k : DcfCursor} {delivered : ℕ}
-    {read : PendingRead} {size : ℕ} → Carried a got s t offset k delivered read size → Beginning got a.entries
+pub beginning : {a : Aim} {got : List Bytes} {s : State} {t : Option Transfer} {offset : ℕ} {k : DcfCursor} {delivered : ℕ}
+    {read : Option ReadByIndexRequest} {size : ℕ} → Carried a got s t offset k delivered read size → Beginning got a.entries
 beginning {a} {s} {t} {offset} {k} i =
     rw (i.joined, i.known)
     (begins i.before (begun a.job s t offset) (loaded a.job t ++ rest a.job k)
@@ -169,6 +170,6 @@ beginning {a} {s} {t} {offset} {k} i =
 
 -- Ask never needs the repository's self-call, which loads the next entry where nothing is loaded: nothing is readable from the cursor in
 -- the job's own bytes any more.
-pub self_call_never : (a : Aim) (got : List Bytes) (c : Connection) → Carries a got c → c.job.loaded ≡ LoadedTransfer.Unloaded
+pub self_call_never : (a : Aim) (got : List Bytes) (c : Connection) → Carries a got c → c.job.loaded ≡ None
     → rest (take c.job.size a.room) c.job.cursor ≡ []
-self_call_never a got c i e = rw i.holds (subst (λ (x : LoadedTransfer). NoMore a.job x c.job.cursor) e i.none)
+self_call_never a got c i e = rw i.holds (subst (λ (x : Option Transfer). NoMore a.job x c.job.cursor) e i.none)

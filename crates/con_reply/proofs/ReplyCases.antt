@@ -1,5 +1,10 @@
 -- What a reply comes to, as one of a few cases, each with what decides it: by its numbers and its abort mark, and then by state. To show something
 -- of a reply it is enough to show it of each case.
+use Rattle.std.specs.Prelude.{Option, Some, None}
+use Rattle.codec.specs.declared.sequence.SequenceLayerHeader.{SequenceLayerHeader}
+use Rattle.con_rec.specs.declared.Outgoing.{Outgoing}
+use Rattle.con_rec.specs.declared.Reason.{Reason}
+use Rattle.codec.specs.declared.command.SdoCommand.{SdoCommand}
 use Prim.Native.Nat.{ℕ, ◌+◌, ◌%◌, ◌≤◌}
 use mathlib.Core.Path.{◌≡◌, refl}
 use mathlib.Core.Bool.{true, false}
@@ -12,7 +17,6 @@ use Rattle.codec.specs.Request.{abort_code}
 use Rattle.con_rec.specs.Record.{ended}
 use Rattle.connection.specs.Types.{
   Outgoing,
-  Outstanding,
   Reason,
   SdoClientConnection as Connection,
   SdoClientConnectionState as State,
@@ -37,7 +41,6 @@ use Rattle.con_reply.specs.Reply.{
   with_bytes,
 }
 use Rattle.con_reply.specs.declared.reply.Decision.{Decision}
-use Rattle.con_reply.specs.declared.reply.RoomFor.{RoomFor}
 use Rattle.con_reply.proofs.JobCarried.{Sending}
 
 -- by state, with n payload bytes: only an upload stores, and what it stores lies within the room
@@ -57,13 +60,13 @@ module _ (c : Connection) (n : ℕ) (room : Bytes) (P : Decision → Type 0) (b 
   stored_last_lem : (Sending c.state → ⊥) → (from : ℕ) → P (stored_last (room_for from n room) c from)
   unfolding room_for
   stored_last_lem never from =
-      decided (λ (x : RoomFor). P (stored_last x c from)) (leb (from + n) (length room)) _ RoomFor.NoRoom
+      decided (λ (x : Option ℕ). P (stored_last x c from)) (leb (from + n) (length room)) _ None
       (λ h. b.last never from (leb-true _ _ h)) (λ h. b.full never)
 
   stored_more_lem : (Sending c.state → ⊥) → (from : ℕ) → P (stored_more (room_for from n room) c from)
   unfolding room_for
   stored_more_lem never from =
-      decided (λ (x : RoomFor). P (stored_more x c from)) (leb (from + n) (length room)) _ RoomFor.NoRoom
+      decided (λ (x : Option ℕ). P (stored_more x c from)) (leb (from + n) (length room)) _ None
       (λ h. b.more never from (leb-true _ _ h)) (λ h. b.full never)
 
   first : (kind : Segmentation) → c.state ≡ State.UploadInit → P (reply_first kind c n room)
@@ -102,12 +105,12 @@ module _ (seq : SequenceLayerHeader) (cmd : SdoCommand) (payload : Bytes) (c : C
 
   -- for the command outstanding
   abbrev For : Outgoing → Type 0
-  For o = (c.waiting.last_sent_command ≡ Outstanding.Waits o) × (seq.receive_sequence_number ≡ o.send)
+  For o = (c.waiting.last_sent_command ≡ Some o) × (seq.receive_sequence_number ≡ o.send)
 
   -- nothing is outstanding; not for the command outstanding; the number last received, a wrong one; the successor, with the abort mark or without
   pub data ReplyView : Decision → Type 0 where
-    unasked : c.waiting.last_sent_command ≡ Outstanding.Nothing → ReplyView (Decision.Keeps c)
-    other : {o : Outgoing} → c.waiting.last_sent_command ≡ Outstanding.Waits o → (seq.receive_sequence_number ≡ o.send → ⊥)
+    unasked : c.waiting.last_sent_command ≡ None → ReplyView (Decision.Keeps c)
+    other : {o : Outgoing} → c.waiting.last_sent_command ≡ Some o → (seq.receive_sequence_number ≡ o.send → ⊥)
         → ReplyView (Decision.Keeps c)
     again : {o : Outgoing} → For o → send ≡ last → ReplyView (Decision.Keeps (cleared c last))
     wrong : {o : Outgoing} → For o → (send ≡ (last + 1) % 64 → ⊥) → ReplyView (Decision.Keeps (ended c Reason.Sequence))
@@ -120,9 +123,9 @@ module _ (seq : SequenceLayerHeader) (cmd : SdoCommand) (payload : Bytes) (c : C
   unfolding reply_of
   reply_view = go c.waiting.last_sent_command refl
     where
-      go : (x : Outstanding) → c.waiting.last_sent_command ≡ x → ReplyView (reply_to x seq cmd payload c room)
-      go Outstanding.Nothing e = unasked e
-      go (Outstanding.Waits o) e =
+      go : (x : Option Outgoing) → c.waiting.last_sent_command ≡ x → ReplyView (reply_to x seq cmd payload c room)
+      go None e = unasked e
+      go (Some o) e =
           decided ReplyView (eqb seq.receive_sequence_number o.send) _ _
           (λ f.
           decided ReplyView (eqb send last) _ _ (λ g. again (e, eqb-true _ _ f) (eqb-true _ _ g))

@@ -1,5 +1,10 @@
 -- A reply leaves a consistent connection consistent with its room: the number last received becomes the reply's only where that is the
 -- successor modulo 64, what is loaded lies within the job, and what is stored lies within the room.
+use Rattle.std.specs.Prelude.{Option, Some, None, Ok}
+use Rattle.codec.specs.declared.sequence.SequenceLayerHeader.{SequenceLayerHeader}
+use Rattle.codec.specs.declared.dcf.Transfer.{Transfer}
+use Rattle.con_rec.specs.declared.Reason.{Reason}
+use Rattle.codec.specs.declared.command.SdoCommand.{SdoCommand}
 use Prim.Native.Nat.{ℕ, ◌≤◌, ◌<◌}
 use native.Mathlib.Omega.{arith}
 use mathlib.Core.Path.{◌≡◌, refl, sym}
@@ -27,9 +32,7 @@ use Rattle.con_reply.specs.Reply.{
   with_upload,
 }
 use Rattle.connection.specs.Types.{
-  Taken,
   DcfStep,
-  LoadedTransfer,
   Reason,
   SdoClientConnection as Connection,
   SdoClientConnectionState as State,
@@ -63,19 +66,19 @@ module _ (b : Connection) (number : ℕ) (room : Bytes) (i : Consistent (cleared
   -- a download goes on
   next_sound : is_ended c.outcome ≡ false → (d : DcfStep)
       → Found (take c.job.size room) c.job.cursor.at c.job.cursor.left d → Consistent (reply_next d c) room
-  next_sound r (DcfStep.Entry index sub start len next) st =
+  next_sound r (DcfStep.Entry entry next) st =
       moved State.Established (next_transaction c.transaction_id)
-      (with_transfer (delivered_one c.job) (record { index = index; sub_index = sub; start = start; len = len }) next)
+      (with_transfer (delivered_one c.job) entry next)
       (omega (arith, st.2, length-take c.job.size room)) i.held tt i.brings r
   next_sound r DcfStep.End st = ended_sound (with_job c (delivered_one c.job)) room delivered_sound Reason.Complete
   next_sound r DcfStep.Unreadable st = ended_sound (with_job c (delivered_one c.job)) room delivered_sound Reason.Cut
 
-  sent_sound : is_ended c.outcome ≡ false → (x : LoadedTransfer) → Consistent (reply_sent x room c) room
-  sent_sound r (LoadedTransfer.Loaded t) =
+  sent_sound : is_ended c.outcome ≡ false → (x : Option Transfer) → Consistent (reply_sent x room c) room
+  sent_sound r (Some t) =
       either (λ (d : Connection). Consistent d room) (leb (total t) c.job.offset) _ c
       (next_sound r (dcf_step (take c.job.size room) c.job.cursor) (stepped (take c.job.size room) c.job.cursor))
       i
-  sent_sound r LoadedTransfer.Unloaded = i
+  sent_sound r None = i
 
   by_state : (n : ℕ) → ByState c n room (λ (x : Decision). TakenSound room (replied x))
   by_state n =
@@ -119,6 +122,6 @@ module _ (c : Connection) (room : Bytes) (i : Consistent c room) (seq : Sequence
       (λ h. ended_sound (cleared c send) room (cleared_sound send (omega arith)) (Reason.PeerAborted (abort_code payload)))
       (λ h. by_state c send room (cleared_sound send (omega arith)) (length payload))
 
-  pub reply_sound : (d : Connection) → replied (reply_of seq cmd payload c room) ≡ Taken.Connection d
+  pub reply_sound : (d : Connection) → replied (reply_of seq cmd payload c room) ≡ Ok d
       → Consistent d (room_after (reply_of seq cmd payload c room) payload room)
   reply_sound d e = other_room d room _ (sym (replied_room seq cmd payload c room)) (rw e at in_room)

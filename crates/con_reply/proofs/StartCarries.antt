@@ -1,5 +1,8 @@
 -- A start of a write or a DCF that is taken, of any connection and with any room, begins what is carried: nothing was sent yet, and the
 -- first entry is loaded if one is readable. The connection is consistent with the room that has the job's bytes.
+use Rattle.std.specs.Prelude.{Option, Some, None, Result, Ok, Err}
+use Rattle.codec.specs.declared.refusal.Refusal.{Refusal}
+use Rattle.codec.specs.declared.dcf.Transfer.{Transfer}
 use Prim.Native.Nat.{ℕ, zero, suc, ◌+◌, ◌-◌, ◌≤◌}
 use native.Mathlib.Omega.{arith}
 use mathlib.Core.Path.{◌≡◌, refl, ap, subst}
@@ -17,15 +20,10 @@ use Rattle.con_reply.specs.Consistent.{Consistent, LiesIn}
 use Rattle.con_reply.specs.Jobs.{Job, writes, loads, bytes_of, entries_of, counted, start_of}
 use Rattle.connection.specs.Start.{capacity, dcf_job, first_cursor, job_with, started_at}
 use Rattle.connection.specs.Types.{
-  Taken,
   DcfCursor,
   DcfStep,
-  LoadedTransfer,
   Mode,
-  Moment,
   Now,
-  Outcome,
-  PendingRead,
   SdoClientConnection as Connection,
   SdoClientConnectionState as State,
   SdoJob,
@@ -63,18 +61,18 @@ aim_of job room =
 -- what is begun
 pub record Begun (a : Aim) (d : Connection) : Type 0 where
   pub carries : Carries a [] d
-  pub runs : d.outcome ≡ Outcome.Running
+  pub runs : d.outcome ≡ None
   pub consistent : Consistent d a.room
 
-abbrev Begins : Aim → Taken → Type 0
-Begins a (Taken.Connection d) = Begun a d
-Begins a (Taken.Refused r) = Unit {0}
+abbrev Begins : Aim → Result Connection Refusal → Type 0
+Begins a (Ok d) = Begun a d
+Begins a (Err r) = Unit {0}
 
 -- a job of which nothing was sent, by what is loaded and where it goes on
-module _ (job : Job) (room : Bytes) (x : LoadedTransfer) (k : DcfCursor) (known : entries_of job ≡ loaded (bytes_of job) x ++ rest (bytes_of job) k)
+module _ (job : Job) (room : Bytes) (x : Option Transfer) (k : DcfCursor) (known : entries_of job ≡ loaded (bytes_of job) x ++ rest (bytes_of job) k)
     (count : counted job ≡ length (loaded (bytes_of job) x) + k.left) (none : NoMore (bytes_of job) x k)
     (within : LiesIn (length (bytes_of job)) x) (fewer : length (entries_of job) ≤ 4294967295) where
-  carried : Carried (aim_of job room) [] State.Opening x 0 k 0 PendingRead.NoRead (length (bytes_of job))
+  carried : Carried (aim_of job room) [] State.Opening x 0 k 0 None (length (bytes_of job))
   carried =
       record {
         before = [];
@@ -91,7 +89,7 @@ module _ (job : Job) (room : Bytes) (x : LoadedTransfer) (k : DcfCursor) (known 
       }
 
   begins : (c : Connection) (t : ℕ) (n : Now) (due : ℕ)
-      → (mode : Mode) → Begins (aim_of job room) (started_at (Moment.At due) c t n (job_with mode (length (bytes_of job)) k x PendingRead.NoRead))
+      → (mode : Mode) → Begins (aim_of job room) (started_at (Some due) c t n (job_with mode (length (bytes_of job)) k x None))
   begins c t n due mode =
       record {
         carries = carried;
@@ -114,20 +112,20 @@ module _ (job : Job) (room : Bytes) (x : LoadedTransfer) (k : DcfCursor) (known 
       held = omega (arith, rw length-take at (ap length (placed_first room (bytes_of job))))
 
 dcf_begins : (mode : Mode) (dcf room : Bytes) → length dcf ≤ capacity room → (c : Connection) (t : ℕ) (n : Now) (due : ℕ) (s : DcfStep)
-    → Found dcf 4 (count_of dcf) s → Begins (aim_of (loads mode dcf) room) (started_at (Moment.At due) c t n (dcf_job mode s (length dcf) (first_cursor dcf)))
-dcf_begins mode dcf room h c t n due (DcfStep.Entry index sub start len next) st =
-    begins (loads mode dcf) room (LoadedTransfer.Loaded _) next st.0 (omega (arith, st.1)) tt st.2
+    → Found dcf 4 (count_of dcf) s → Begins (aim_of (loads mode dcf) room) (started_at (Some due) c t n (dcf_job mode s (length dcf) (first_cursor dcf)))
+dcf_begins mode dcf room h c t n due (DcfStep.Entry entry next) st =
+    begins (loads mode dcf) room (Some _) next st.0 (omega (arith, st.1)) tt st.2
     (omega (arith, few (count_of dcf) dcf 4)) c t n due mode
 dcf_begins mode dcf room h c t n due DcfStep.End st =
-    begins (loads mode dcf) room LoadedTransfer.Unloaded (first_cursor dcf) refl (omega arith) st.0 tt
+    begins (loads mode dcf) room None (first_cursor dcf) refl (omega arith) st.0 tt
     (omega (arith, few (count_of dcf) dcf 4)) c t n due mode
 dcf_begins mode dcf room h c t n due DcfStep.Unreadable st =
-    begins (loads mode dcf) room LoadedTransfer.Unloaded (first_cursor dcf) refl (omega arith) st.0 tt
+    begins (loads mode dcf) room None (first_cursor dcf) refl (omega arith) st.0 tt
     (omega (arith, few (count_of dcf) dcf 4)) c t n due mode
 
 -- a start that is taken, by what it begins
-taken : {c : Connection} {n : Now} {room : Bytes} {Short : Type 0} {size t : ℕ} {j : SdoJob} (a : Aim) {x : Taken}
-    → (size ≤ capacity room → Begins a (started_at (Moment.At (due_at n)) c t n j)) → StartView c n room Short size t j x → Begins a x
+taken : {c : Connection} {n : Now} {room : Bytes} {Short : Type 0} {size t : ℕ} {j : SdoJob} (a : Aim) {x : Result Connection Refusal}
+    → (size ≤ capacity room → Begins a (started_at (Some (due_at n)) c t n j)) → StartView c n room Short size t j x → Begins a x
 taken a f (busy i) = tt
 taken a f (short i s) = tt
 taken a f (full i s h) = tt
@@ -138,7 +136,7 @@ start_begins : (c : Connection) (t : ℕ) (n : Now) (job : Job) (room : Bytes) �
 start_begins c t n (writes mode index sub bytes) room =
     taken (aim_of (writes mode index sub bytes) room)
     (λ h.
-    begins (writes mode index sub bytes) room (LoadedTransfer.Loaded _) _ (rw (take-length bytes)) refl tt (omega arith) (omega arith) c t n _ mode)
+    begins (writes mode index sub bytes) room (Some _) _ (rw (take-length bytes)) refl tt (omega arith) (omega arith) c t n _ mode)
     (write_view c n room t mode index sub bytes)
 start_begins c t n (loads mode dcf) room =
     taken (aim_of (loads mode dcf) room)
@@ -146,5 +144,5 @@ start_begins c t n (loads mode dcf) room =
     (dcf_view c n room t mode dcf)
 
 pub begun_job_lem : (c : Connection) (t : ℕ) (n : Now) (job : Job) (room : Bytes) (d : Connection)
-    → start_of c t n job room ≡ Taken.Connection d → Begun (aim_of job room) d
+    → start_of c t n job room ≡ Ok d → Begun (aim_of job room) d
 begun_job_lem c t n job room d e = subst (Begins (aim_of job room)) e (start_begins c t n job room)

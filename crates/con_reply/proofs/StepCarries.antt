@@ -1,8 +1,13 @@
 -- Ask keeps what is carried: what it gives is the next part of the loaded transfer; and where nothing is loaded any more, the job ends as demand 3
 -- asks.
+use Rattle.std.specs.Prelude.{Option, Some, None}
+use Rattle.codec.specs.declared.request.ReadByIndexRequest.{ReadByIndexRequest}
+use Rattle.codec.specs.declared.dcf.Transfer.{Transfer}
+use Rattle.con_rec.specs.declared.Outgoing.{Outgoing}
+use Rattle.con_rec.specs.declared.Reason.{Reason}
 use Prim.Native.Nat.{ℕ, ◌+◌, ◌-◌, ◌≤◌}
 use native.Mathlib.Omega.{arith}
-use mathlib.Core.Path.{◌≡◌, refl, sym, ◌∙◌, ap, subst}
+use mathlib.Core.Path.{◌≡◌, refl, ap, subst}
 use mathlib.Core.List.{List, [], ◌∷◌, ◌++◌, append-nil}
 use lib.Dec.{leb, eqb}
 use lib.ListN.{length, take, drop}
@@ -16,10 +21,8 @@ use Rattle.con_reply.specs.Sent.{sent_of}
 use Rattle.con_rec.specs.Parts.{wire, total, most, limit, first_kind, later_kind}
 use Rattle.connection.specs.Types.{
   DcfCursor,
-  LoadedTransfer,
   Mode,
   Outgoing,
-  PendingRead,
   Reason,
   SdoClientConnection as Connection,
   SdoClientConnectionState as State,
@@ -44,13 +47,10 @@ later_part : (n : ℕ) (l : List Bytes) (p : Bytes) → with_part (later_kind n)
 later_part n l p =
     either (λ (s : Segmentation). with_part s l p ≡ longer l p) (leb n most) Segmentation.Complete Segmentation.Segment refl refl
 
-never_reads : {index sub : ℕ} → PendingRead.Read index sub ≡ PendingRead.NoRead → ⊥
-never_reads e = let z : ◌≡◌ {A = ℕ} 0 1 = cc in omega arith
-
 module _ (a : Aim) (got : List Bytes) where
   -- ---- nothing is loaded: all was sent
   pub finished : (c : Connection)
-      → Carried a got State.Established LoadedTransfer.Unloaded c.job.offset c.job.cursor c.job.delivered
+      → Carried a got State.Established None c.job.offset c.job.cursor c.job.delivered
       c.job.pending_read c.job.size
       → ForEnd a.entries a.count got (finish c.job.cursor.left) c.job.delivered
   finished c j =
@@ -69,21 +69,21 @@ module _ (a : Aim) (got : List Bytes) where
       number = rw all j.figure
 
   -- ---- the parts of the loaded transfer, in the room as in the job's own bytes
-  in_room : {s : State} {t : Transfer} {offset : ℕ} {k : DcfCursor} {delivered : ℕ} {read : PendingRead} {size : ℕ}
-      → Carried a got s (LoadedTransfer.Loaded t) offset k delivered read size → wire a.room t ≡ wire a.job t
+  in_room : {s : State} {t : Transfer} {offset : ℕ} {k : DcfCursor} {delivered : ℕ} {read : Option ReadByIndexRequest} {size : ℕ}
+      → Carried a got s (Some t) offset k delivered read size → wire a.room t ≡ wire a.job t
   in_room {t} {size} j =
       subst (λ (b : Bytes). t.start + t.len ≤ length b → wire a.room t ≡ wire b t) j.holds (wire_same a.room size t) j.within
 
-  first_sent : (mode : Mode) (t : Transfer) (m offset : ℕ) (k : DcfCursor) (delivered : ℕ) (read : PendingRead) (size : ℕ)
-      → Carried a got State.Established (LoadedTransfer.Loaded t) offset k delivered read size
-      → Carried a (with_part (first_kind mode (total t)) got (take m (wire a.room t))) State.DownloadInProgress (LoadedTransfer.Loaded t) m
+  first_sent : (mode : Mode) (t : Transfer) (m offset : ℕ) (k : DcfCursor) (delivered : ℕ) (read : Option ReadByIndexRequest) (size : ℕ)
+      → Carried a got State.Established (Some t) offset k delivered read size
+      → Carried a (with_part (first_kind mode (total t)) got (take m (wire a.room t))) State.DownloadInProgress (Some t) m
       k delivered read size
   first_sent mode t m offset k delivered read size j = goes_on _ _ m j tt (rw (first_part, in_room j, j.joined, append-nil))
 
-  later_sent : (t : Transfer) (m offset : ℕ) (k : DcfCursor) (delivered : ℕ) (read : PendingRead) (size : ℕ)
-      → Carried a got State.DownloadInProgress (LoadedTransfer.Loaded t) offset k delivered read size
+  later_sent : (t : Transfer) (m offset : ℕ) (k : DcfCursor) (delivered : ℕ) (read : Option ReadByIndexRequest) (size : ℕ)
+      → Carried a got State.DownloadInProgress (Some t) offset k delivered read size
       → Carried a (with_part (later_kind (total t - offset)) got (take m (drop offset (wire a.room t)))) State.DownloadInProgress
-      (LoadedTransfer.Loaded t) (offset + m) k delivered read size
+      (Some t) (offset + m) k delivered read size
   later_sent t m offset k delivered read size j =
       goes_on _ _ (offset + m) j tt (rw (later_part, in_room j, j.joined, longer_last, take-add))
 
@@ -94,8 +94,8 @@ module _ (a : Aim) (got : List Bytes) where
       c.job.size
   sent c i (opening f e) = rw e at i
   sent c i (first {t} f e l) =
-      let j : Carried a got State.Established (LoadedTransfer.Loaded t) _ _ _ _ _ = rw (e, l) at i in rw l (first_sent c.job.mode t _ _ _ _ _ _ j)
-  sent c i (reading f e l p) = let z : PendingRead.Read _ _ ≡ PendingRead.NoRead = sym p ∙ i.writes in absurd (never_reads z)
+      let j : Carried a got State.Established (Some t) _ _ _ _ _ = rw (e, l) at i in rw l (first_sent c.job.mode t _ _ _ _ _ _ j)
+  sent c i (reading f e l p) = cc (p, i.writes)
   sent c i (next f e) = absurd (rw e at i.sending)
   sent c i (later {t} f e l) =
-      let j : Carried a got State.DownloadInProgress (LoadedTransfer.Loaded t) _ _ _ _ _ = rw (e, l) at i in rw l (later_sent t _ _ _ _ _ _ j)
+      let j : Carried a got State.DownloadInProgress (Some t) _ _ _ _ _ = rw (e, l) at i in rw l (later_sent t _ _ _ _ _ _ j)

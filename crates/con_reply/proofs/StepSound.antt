@@ -1,5 +1,11 @@
 -- A new connection is consistent with its room, and so is one whose read was started; ask and tick leave a consistent one so, and what they give of it
 -- is as long as its segment size says.
+use Rattle.std.specs.Prelude.{Option, Some, None, Result, Ok, Err}
+use Rattle.codec.specs.declared.refusal.Refusal.{Refusal}
+use Rattle.codec.specs.declared.dcf.Transfer.{Transfer}
+use Rattle.con_rec.specs.declared.Outgoing.{Outgoing}
+use Rattle.con_rec.specs.declared.Reason.{Reason}
+use Rattle.con_rec.specs.declared.Step.{Step}
 use Prim.Native.Nat.{ℕ, ◌+◌, ◌≤◌}
 use native.Mathlib.Omega.{arith}
 use mathlib.Core.Path.{◌≡◌, refl, ◌∙◌, ap, subst}
@@ -18,21 +24,15 @@ use Rattle.con_rec.specs.Parts.{most}
 use Rattle.con_rec.specs.Payload.{payload_from}
 use Rattle.con_rec.specs.Record.{updated, ended, new_connection, nothing_waits}
 use Rattle.connection.specs.Start.{read_job, start_read}
-use Rattle.connection.specs.Tick.{repeated, tick_of}
+use Rattle.connection.specs.Tick.{tick_of}
 use Rattle.connection.specs.Types.{
-  LoadedTransfer,
   Mode,
-  Taken,
   Now,
-  Outcome,
   Outgoing,
-  Outstanding,
   Reason,
   SdoClientConnection as Connection,
   SdoClientConnectionState as State,
   SdoJob,
-  Sends,
-  Stepped,
   Transfer,
   Waiting,
 }
@@ -67,25 +67,25 @@ other_room c a b e i =
     }
 
 -- in any other state than DownloadInProgress
-pub not_downloading : (s : State) → is_downloading s ≡ false → (x : LoadedTransfer) → LoadsIn s x
-not_downloading s e (LoadedTransfer.Loaded t) = tt
-not_downloading s e LoadedTransfer.Unloaded = e
+pub not_downloading : (s : State) → is_downloading s ≡ false → (x : Option Transfer) → LoadsIn s x
+not_downloading s e (Some t) = tt
+not_downloading s e None = e
 
 -- what an answer must leave
-abbrev pub TakenSound : Bytes → Taken → Type 0
-TakenSound room (Taken.Connection d) = Consistent d room
-TakenSound room (Taken.Refused r) = Unit {0}
+abbrev pub TakenSound : Bytes → Result Connection Refusal → Type 0
+TakenSound room (Ok d) = Consistent d room
+TakenSound room (Err r) = Unit {0}
 
-unfoldable pub Steps : Bytes → Stepped → Type 0
-Steps room (Stepped.Went s) = Consistent s.connection room
-Steps room (Stepped.Refused r) = Unit {0}
+unfoldable pub Steps : Bytes → Result Step Refusal → Type 0
+Steps room (Ok s) = Consistent s.connection room
+Steps room (Err r) = Unit {0}
 
 -- ---- the start of a read
 pub read_sound : (c : Connection) (t : ℕ) (n : Now) (mode : Mode) (index sub : ℕ) (room : Bytes) (d : Connection)
-    → start_read c t n mode index sub ≡ Taken.Connection d → Consistent d room
+    → start_read c t n mode index sub ≡ Ok d → Consistent d room
 read_sound c t n mode index sub room d e = subst (TakenSound room) e (go (read_view c n room t mode index sub))
   where
-    go : {x : Taken} → StartView c n room ⊥ 0 t (read_job mode index sub) x → TakenSound room x
+    go : {x : Result Connection Refusal} → StartView c n room ⊥ 0 t (read_job mode index sub) x → TakenSound room x
     go (busy i) = tt
     go (short i s) = tt
     go (full i s h) = tt
@@ -104,7 +104,7 @@ read_sound c t n mode index sub room d e = subst (TakenSound room) e (go (read_v
 
 module _ (c : Connection) (room : Bytes) (i : Consistent c room) where
   -- the same numbers, with another state, job, waiting or outcome
-  pub with_parts : (s : State) (t : ℕ) (job : SdoJob) (w : Waiting) (x : Outcome) → WaitsIn s w.last_sent_command
+  pub with_parts : (s : State) (t : ℕ) (job : SdoJob) (w : Waiting) (x : Option Reason) → WaitsIn s w.last_sent_command
       → WaitsWith job.size w.last_sent_command → LiesIn job.size job.loaded → job.size ≤ length room → LoadsIn s job.loaded
       → job.uploaded ≤ length room → is_ended x ≡ is_closed s
       → Consistent (updated c s t c.send_sequence_number c.last_received_sequence_number job w x) room
@@ -113,7 +113,7 @@ module _ (c : Connection) (room : Bytes) (i : Consistent c room) where
 
   pub ended_sound : (why : Reason) → Consistent (ended c why) room
   ended_sound why =
-      with_parts State.Closed c.transaction_id c.job nothing_waits (Outcome.Ended why) tt tt i.within i.held
+      with_parts State.Closed c.transaction_id c.job nothing_waits (Some why) tt tt i.within i.held
       (not_downloading State.Closed refl c.job.loaded) i.brings refl
 
   -- a state that is not Closed: the connection runs
@@ -121,7 +121,7 @@ module _ (c : Connection) (room : Bytes) (i : Consistent c room) where
   runs s e h = i.ends ∙ ap is_closed e ∙ h
 
   -- ---- ask
-  lies : (t : Transfer) → c.job.loaded ≡ LoadedTransfer.Loaded t → t.start + t.len ≤ c.job.size
+  lies : (t : Transfer) → c.job.loaded ≡ Some t → t.start + t.len ≤ c.job.size
   lies t l = subst (LiesIn c.job.size) l i.within
 
   -- the state that a command leads to waits for its reply; the command is a part of the loaded transfer
@@ -137,7 +137,7 @@ module _ (c : Connection) (room : Bytes) (i : Consistent c room) where
   unfolding Steps
   ask_sound n = go (ask_view c n)
     where
-      go : {x : Stepped} → AskView c n x → Steps room x
+      go : {x : Result Step Refusal} → AskView c n x → Steps room x
       go (silent w) = i
       go (ends f e l p) = ended_sound (finish c.job.cursor.left)
       go (gives g h) =
@@ -159,7 +159,7 @@ module _ (c : Connection) (room : Bytes) (i : Consistent c room) where
   unfolding Steps
   tick_sound n = go (tick_view c n)
     where
-      go : {x : Stepped} → TickView c n x → Steps room x
+      go : {x : Result Step Refusal} → TickView c n x → Steps room x
       go (never e) = i
       go (early e h) = i
       go (over e h r) = ended_sound Reason.Timeout
@@ -169,14 +169,14 @@ module _ (c : Connection) (room : Bytes) (i : Consistent c room) where
       go (too-late e h r k) = tt
 
   -- ---- what ask or tick gives is as long as its segment size says
-  out_sized : (o : Outgoing) → PartOf c.job.size o.message → Sized room (Sends.Gives o)
+  out_sized : (o : Outgoing) → PartOf c.job.size o.message → Sized room (Some o)
   out_sized o = go o.message
     where
       go : (m : Message) → PartOf c.job.size m
           → (length (payload_from room m) ≡ (command_by o.mode m o.transaction).header.segment_size)
           × ((command_by o.mode m o.transaction).header.segment_size ≤ most)
       go Message.Opening p = (refl, omega arith)
-      go (Message.Read index sub) p = (refl, omega arith)
+      go (Message.Read q) p = (refl, omega arith)
       go Message.Next p = (refl, omega arith)
       go (Message.First t) p = (part_length_lem room t 0 _ (omega (arith, i.held)) (omega arith), omega arith)
       go (Message.Later t sent) p = (part_length_lem room t sent _ (omega (arith, i.held)) (omega arith), omega arith)
@@ -185,7 +185,7 @@ module _ (c : Connection) (room : Bytes) (i : Consistent c room) where
   pub ask_sized : (n : Now) → AllSized room (ask_of c n)
   ask_sized n = go (ask_view c n)
     where
-      go : {x : Stepped} → AskView c n x → AllSized room x
+      go : {x : Result Step Refusal} → AskView c n x → AllSized room x
       go (silent w) = tt
       go (ends f e l p) = tt
       go (gives {o} g h) = out_sized o (waits_then g).3
@@ -194,11 +194,11 @@ module _ (c : Connection) (room : Bytes) (i : Consistent c room) where
   pub tick_sized : (n : Now) → AllSized room (tick_of c n)
   tick_sized n = go (tick_view c n)
     where
-      repeat : (x : Outstanding) → WaitsWith c.job.size x → Sized room (repeated x)
-      repeat (Outstanding.Waits o) p = out_sized o p
-      repeat Outstanding.Nothing p = tt
+      repeat : (x : Option Outgoing) → WaitsWith c.job.size x → Sized room x
+      repeat (Some o) p = out_sized o p
+      repeat None p = tt
 
-      go : {x : Stepped} → TickView c n x → AllSized room x
+      go : {x : Result Step Refusal} → TickView c n x → AllSized room x
       go (never e) = tt
       go (early e h) = tt
       go (over e h r) = out_sized (abort_command c) tt

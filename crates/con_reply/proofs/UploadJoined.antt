@@ -1,4 +1,6 @@
 -- The first `uploaded` bytes of the room are an upload's: a reply that goes on with it or ends it leaves what was there, joined with its payload.
+use Rattle.std.specs.Prelude.{Option, Some, None}
+use Rattle.con_rec.specs.declared.Reason.{Reason}
 use Prim.Native.Nat.{ℕ, ◌+◌, ◌≤◌}
 use native.Mathlib.Omega.{arith}
 use mathlib.Core.Path.{◌≡◌, refl, subst}
@@ -10,19 +12,18 @@ use borrow.Author.Tests.{leb-true}
 use Rattle.laws.proofs.Choices.{decided}
 use Rattle.codec.specs.Bytes.{Bytes, placed}
 use Rattle.codec.proofs.WrittenBytes.{placed_length}
-use Rattle.connection.specs.Types.{Outcome, SdoClientConnection as Connection, Segmentation}
+use Rattle.connection.specs.Types.{SdoClientConnection as Connection, Segmentation}
 use Rattle.con_reply.specs.Reply.{reply_first, reply_more, room_for, stored_last, stored_more}
 use Rattle.con_reply.specs.Uploaded.{joined}
 use Rattle.con_reply.specs.declared.reply.Decision.{Decision}
-use Rattle.con_reply.specs.declared.reply.RoomFor.{RoomFor}
 
 -- the room holds so many bytes, and these are the upload's
 abbrev pub Holds : Connection → Bytes → Bytes → Type 0
 Holds d room bytes = (d.job.uploaded ≤ length room) × (take d.job.uploaded room ≡ bytes)
 
-abbrev pub WhileRunning : Outcome → Type 0 → Type 0
-WhileRunning Outcome.Running holds = holds
-WhileRunning (Outcome.Ended why) holds = Unit {0}
+abbrev pub WhileRunning : Option Reason → Type 0 → Type 0
+WhileRunning None holds = holds
+WhileRunning (Some why) holds = Unit {0}
 
 abbrev pub Joins : Bytes → Bytes → Bytes → Decision → Type 0
 Joins bytes payload room (Decision.Keeps d) = WhileRunning d.outcome (Holds d room bytes)
@@ -45,17 +46,17 @@ module _ (c : Connection) (payload room : Bytes) where
   last_joins : (from : ℕ) → Joins (take from room ++ payload) payload room (stored_last (room_for from (length payload) room) c from)
   unfolding room_for
   last_joins from =
-      decided (λ (x : RoomFor). Joins (take from room ++ payload) payload room (stored_last x c from)) (leb (from + length payload) (length room)) _ _
+      decided (λ (x : Option ℕ). Joins (take from room ++ payload) payload room (stored_last x c from)) (leb (from + length payload) (length room)) _ _
       (λ h. put_behind room payload from (leb-true _ _ h)) (λ h. tt)
 
   more_joins : (from : ℕ) → Joins (take from room ++ payload) payload room (stored_more (room_for from (length payload) room) c from)
   unfolding room_for
   more_joins from =
-      decided (λ (x : RoomFor). Joins (take from room ++ payload) payload room (stored_more x c from)) (leb (from + length payload) (length room)) _ _
+      decided (λ (x : Option ℕ). Joins (take from room ++ payload) payload room (stored_more x c from)) (leb (from + length payload) (length room)) _ _
       (λ h. put_behind room payload from (leb-true _ _ h)) (λ h. tt)
 
   -- in UploadInit, and in UploadInProgress
-  pub first_joined : c.outcome ≡ Outcome.Running → (kind : Segmentation) (before : Bytes)
+  pub first_joined : c.outcome ≡ None → (kind : Segmentation) (before : Bytes)
       → Joins (joined kind before payload) payload room (reply_first kind c (length payload) room)
   first_joined r Segmentation.Expedited before = last_joins 0
   first_joined r Segmentation.Initiate before = rw r (omega arith, refl)

@@ -2,10 +2,10 @@
 -- or Initiate, join the payloads. Where a job ended Complete or Cut, this is its readable entries, each once, in order, the delivered
 -- figure is their number, and it is Complete exactly when all counted entries are readable. At any other moment it is a beginning of
 -- that, the last entry perhaps in part.
-use Rattle.std.specs.Prelude.{ℕ, ◌≡◌, Bool, true, false, List, [], ◌∷◌, ◌++◌, eqb, length, take}
+use Rattle.std.specs.Prelude.{ℕ, ◌≡◌, Bool, true, false, List, [], ◌∷◌, ◌++◌, eqb, length, take, Option, Some, None}
 use Rattle.codec.specs.Bytes.{Bytes}
 use Rattle.codec.specs.Command.{command_number}
-use Rattle.connection.specs.Types.{CommandId, Outcome, Reason, Segmentation}
+use Rattle.connection.specs.Types.{CommandId, Reason, Segmentation}
 use Rattle.con_reply.specs.Sent.{Sent}
 
 -- Drop openings: an opening is a Nil command, whose number is 0.
@@ -58,6 +58,6 @@ ForEnd entries count got (Reason.PeerAborted code) figure = Beginning got entrie
 ForEnd entries count got Reason.Timeout figure = Beginning got entries
 ForEnd entries count got Reason.BadSegment figure = Beginning got entries
 
-abbrev pub For : List Bytes → ℕ → List Bytes → Outcome → ℕ → Type 0
-For entries count got Outcome.Running figure = Beginning got entries
-For entries count got (Outcome.Ended why) figure = ForEnd entries count got why figure
+abbrev pub For : List Bytes → ℕ → List Bytes → Option Reason → ℕ → Type 0
+For entries count got None figure = Beginning got entries
+For entries count got (Some why) figure = ForEnd entries count got why figure

@@ -1,10 +1,11 @@
 -- The jobs that send (document 01, "Bytes"), as demand 3 speaks of them: a write or a concise DCF, in either mode, with its bytes, its readable
 -- entries, how many are counted, and its start.
-use Rattle.std.specs.Prelude.{ℕ, List, [], ◌∷◌}
+use Rattle.std.specs.Prelude.{ℕ, List, [], ◌∷◌, Result}
+use Rattle.codec.specs.declared.refusal.Refusal.{Refusal}
 use Rattle.codec.specs.Bytes.{Bytes}
 use Rattle.codec.specs.Dcf.{count_of, sent_as, readable_entries}
 use Rattle.connection.specs.Start.{start_write, start_dcf}
-use Rattle.connection.specs.Types.{Taken, Mode, Now, SdoClientConnection}
+use Rattle.connection.specs.Types.{Mode, Now, SdoClientConnection}
 
 -- a job that sends, by its mode: a write (index, sub-index, data), or a concise DCF
 pub data Job : Type 0 where
@@ -25,6 +26,6 @@ abbrev pub counted : Job → ℕ
 counted (writes mode index sub bytes) = 1
 counted (loads mode dcf) = count_of dcf
 
-abbrev pub start_of : SdoClientConnection → ℕ → Now → Job → Bytes → Taken
+abbrev pub start_of : SdoClientConnection → ℕ → Now → Job → Bytes → Result SdoClientConnection Refusal
 start_of c t n (writes mode index sub bytes) room = start_write c t n mode index sub bytes room
 start_of c t n (loads mode dcf) room = start_dcf c t n mode dcf room

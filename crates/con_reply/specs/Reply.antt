@@ -2,7 +2,14 @@
 -- number that is not that of the command outstanding: ignored. Then the command, deadline and retries are cleared. Send number equal to
 -- last received: stop there. Not its successor modulo 64: ended, Sequence. Else it becomes last received. Then the abort mark, and then
 -- by state. Refusal 7 undoes the whole reply.
-use Rattle.std.specs.Prelude.{ℕ, ◌+◌, ◌%◌, Bool, true, false, ltb, leb, eqb, length, take}
+use Rattle.std.specs.Prelude.{ℕ, ◌+◌, ◌%◌, Bool, true, false, ltb, leb, eqb, length, take, Option, Some, None, Result, Ok, Err}
+use Rattle.codec.specs.declared.refusal.Refusal.{Refusal}
+use Rattle.codec.specs.declared.sequence.SequenceLayerHeader.{SequenceLayerHeader}
+use Rattle.codec.specs.declared.dcf.Transfer.{Transfer}
+use Rattle.con_rec.specs.declared.SdoClientConnection.{SdoClientConnection}
+use Rattle.con_rec.specs.declared.Outgoing.{Outgoing}
+use Rattle.con_rec.specs.declared.Reason.{Reason}
+use Rattle.codec.specs.declared.command.SdoCommand.{SdoCommand}
 use Rattle.laws.specs.Pick.{pick}
 use Rattle.codec.specs.Bytes.{Bytes, placed}
 use Rattle.codec.specs.Dcf.{dcf_step}
@@ -10,11 +17,8 @@ use Rattle.codec.specs.Request.{abort_code}
 use Rattle.con_rec.specs.Parts.{total}
 use Rattle.con_rec.specs.Record.{updated, ended, next_transaction, nothing_waits}
 use Rattle.connection.specs.Types.{
-  Taken,
   DcfCursor,
   DcfStep,
-  LoadedTransfer,
-  Outstanding,
   Reason,
   ReceiveConnState,
   Refusal,
@@ -28,7 +32,6 @@ use Rattle.connection.specs.Types.{
   Transfer,
 }
 use Rattle.con_reply.specs.declared.reply.Decision.{Decision}
-use Rattle.con_reply.specs.declared.reply.RoomFor.{RoomFor}
 
 -- the command, deadline and retries cleared, and a number last received
 abbrev pub cleared : SdoClientConnection → ℕ → SdoClientConnection
@@ -67,7 +70,7 @@ with_transfer j t next =
     record {
       size = j.size;
       cursor = next;
-      loaded = LoadedTransfer.Loaded t;
+      loaded = Some t;
       offset = 0;
       pending_read = j.pending_read;
       uploaded = j.uploaded;
@@ -77,18 +80,18 @@ with_transfer j t next =
 
 -- DownloadInProgress with everything sent: load the next entry and go to Established, or end.
 abbrev pub reply_next : DcfStep → SdoClientConnection → SdoClientConnection
-reply_next (DcfStep.Entry index sub start len next) c =
+reply_next (DcfStep.Entry entry next) c =
     updated c SdoClientConnectionState.Established (next_transaction c.transaction_id) c.send_sequence_number
     c.last_received_sequence_number
-    (with_transfer (delivered_one c.job) (record { index = index; sub_index = sub; start = start; len = len }) next)
+    (with_transfer (delivered_one c.job) entry next)
     c.waiting c.outcome
 reply_next DcfStep.End c = ended (with_job c (delivered_one c.job)) Reason.Complete
 reply_next DcfStep.Unreadable c = ended (with_job c (delivered_one c.job)) Reason.Cut
 
-abbrev pub reply_sent : LoadedTransfer → Bytes → SdoClientConnection → SdoClientConnection
-reply_sent (LoadedTransfer.Loaded t) room c =
+abbrev pub reply_sent : Option Transfer → Bytes → SdoClientConnection → SdoClientConnection
+reply_sent (Some t) room c =
     pick (leb (total t) c.job.offset) (reply_next (dcf_step (take c.job.size room) c.job.cursor) c) c
-reply_sent LoadedTransfer.Unloaded room c = c
+reply_sent None room c = c
 
 -- an upload with so many bytes
 abbrev pub with_upload : SdoJob → ℕ → SdoJob
@@ -108,16 +111,16 @@ abbrev pub with_bytes : SdoClientConnection → ℕ → SdoClientConnection
 with_bytes c n = with_job c (with_upload c.job n)
 
 -- n bytes are put behind the first `from` of the room, or refusal 7 where they go past it
-unfoldable pub room_for : ℕ → ℕ → Bytes → RoomFor
-room_for from n room = pick (leb (from + n) (length room)) (RoomFor.Upto (from + n)) RoomFor.NoRoom
+unfoldable pub room_for : ℕ → ℕ → Bytes → Option ℕ
+room_for from n room = pick (leb (from + n) (length room)) (Some (from + n)) None
 
-abbrev pub stored_last : RoomFor → SdoClientConnection → ℕ → Decision
-stored_last (RoomFor.Upto end) c from = Decision.Stores (ended (with_bytes c end) Reason.Complete) from
-stored_last RoomFor.NoRoom c from = Decision.NoRoom
+abbrev pub stored_last : Option ℕ → SdoClientConnection → ℕ → Decision
+stored_last (Some end) c from = Decision.Stores (ended (with_bytes c end) Reason.Complete) from
+stored_last None c from = Decision.NoRoom
 
-abbrev pub stored_more : RoomFor → SdoClientConnection → ℕ → Decision
-stored_more (RoomFor.Upto end) c from = Decision.Stores (with_bytes c end) from
-stored_more RoomFor.NoRoom c from = Decision.NoRoom
+abbrev pub stored_more : Option ℕ → SdoClientConnection → ℕ → Decision
+stored_more (Some end) c from = Decision.Stores (with_bytes c end) from
+stored_more None c from = Decision.NoRoom
 
 -- UploadInit: Expedited stores the payload and ends Complete; Initiate empties the data and goes to UploadInProgress; else BadSegment.
 abbrev pub reply_first : Segmentation → SdoClientConnection → ℕ → Bytes → Decision
@@ -180,9 +183,9 @@ reply_heard seq cmd payload c room =
     (reply_taken seq cmd payload (cleared c seq.send_sequence_number) room)
     (Decision.Keeps (ended c Reason.Sequence)))
 
-abbrev pub reply_to : Outstanding → SequenceLayerHeader → SdoCommand → Bytes → SdoClientConnection → Bytes → Decision
-reply_to Outstanding.Nothing seq cmd payload c room = Decision.Keeps c
-reply_to (Outstanding.Waits o) seq cmd payload c room =
+abbrev pub reply_to : Option Outgoing → SequenceLayerHeader → SdoCommand → Bytes → SdoClientConnection → Bytes → Decision
+reply_to None seq cmd payload c room = Decision.Keeps c
+reply_to (Some o) seq cmd payload c room =
     pick (eqb seq.receive_sequence_number o.send)
     (reply_heard seq cmd payload c room)
     (Decision.Keeps c)
@@ -191,10 +194,10 @@ unfoldable pub reply_of : SequenceLayerHeader → SdoCommand → Bytes → SdoCl
 reply_of seq cmd payload c room = reply_to c.waiting.last_sent_command seq cmd payload c room
 
 -- the answer, and the room as it is left
-abbrev pub replied : Decision → Taken
-replied (Decision.Keeps c) = Taken.Connection c
-replied (Decision.Stores c from) = Taken.Connection c
-replied Decision.NoRoom = Taken.Refused Refusal.NoRoom
+abbrev pub replied : Decision → Result SdoClientConnection Refusal
+replied (Decision.Keeps c) = Ok c
+replied (Decision.Stores c from) = Ok c
+replied Decision.NoRoom = Err Refusal.NoRoom
 
 abbrev pub room_after : Decision → Bytes → Bytes → Bytes
 room_after (Decision.Keeps c) payload room = room

@@ -1,11 +1,13 @@
 -- What ask sends: a command as it goes out, its payload read from the room at that moment. What tick gives is a timeout repeat or an abort
 -- (`TickGives` in crates/theorems).
-use Rattle.std.specs.Prelude.{◌≤◌, ◌≡◌, length}
+use Rattle.std.specs.Prelude.{◌≤◌, ◌≡◌, length, Option, Some, None, Result, Ok, Err}
+use Rattle.codec.specs.declared.refusal.Refusal.{Refusal}
+use Rattle.con_rec.specs.declared.Step.{Step}
 use Rattle.codec.specs.Bytes.{Bytes}
 use Rattle.con_rec.specs.Commands.{command_of}
 use Rattle.con_rec.specs.Parts.{most}
 use Rattle.con_rec.specs.Payload.{payload_of}
-use Rattle.connection.specs.Types.{CommandId, Outgoing, Segmentation, Sends, Stepped}
+use Rattle.connection.specs.Types.{CommandId, Outgoing, Segmentation}
 
 -- a command that was sent
 pub record Sent : Type 0 where
@@ -22,11 +24,11 @@ sent_of room o =
     }
 
 -- a payload is as long as its command's segment size says, at most 1452 bytes
-abbrev pub Sized : Bytes → Sends → Type 0
-Sized room (Sends.Gives o) =
+abbrev pub Sized : Bytes → Option Outgoing → Type 0
+Sized room (Some o) =
     (length (payload_of room o) ≡ (command_of o).header.segment_size) × ((command_of o).header.segment_size ≤ most)
-Sized room Sends.Silent = Unit {0}
+Sized room None = Unit {0}
 
-abbrev pub AllSized : Bytes → Stepped → Type 0
-AllSized room (Stepped.Went s) = Sized room s.sends
-AllSized room (Stepped.Refused r) = Unit {0}
+abbrev pub AllSized : Bytes → Result Step Refusal → Type 0
+AllSized room (Ok s) = Sized room s.sends
+AllSized room (Err r) = Unit {0}

@@ -1,22 +1,34 @@
 // Reply: what a command from the server brings about. Decided on the record and the job's bytes; the only thing done to the room is to
 // put an upload's bytes in it.
 ghost use Rattle.std.specs.Prelude.{◌≡◌};
-ghost use Rattle.con_reply.specs.Reply.{cleared as cleared_of, delivered_one, in_state, one_more, receive_initializes, replied, reply_first, reply_heard, reply_in, reply_more, reply_next, reply_of, reply_opening, reply_sent, reply_taken, reply_to, room_after, room_for, send_initializes, stored_last, stored_more, with_bytes, with_job, with_transfer};
+ghost use Rattle.con_reply.specs.Reply.{
+  cleared as cleared_of,
+  delivered_one,
+  replied,
+  reply_first,
+  reply_in,
+  reply_more,
+  reply_next,
+  reply_of,
+  reply_opening,
+  reply_sent,
+  room_after,
+  room_for,
+  stored_last,
+  stored_more,
+  with_bytes,
+};
 
 use codec::command::{SdoCommand, Segmentation};
-use codec::dcf::{DcfCursor, DcfStep, dcf_step};
+use codec::dcf::{DcfStep, dcf_step};
 use codec::octets::put;
 use codec::refusal::Refusal;
 use codec::request::abort_code;
 use codec::sequence::{ReceiveConnState, SendConnState, SequenceLayerHeader};
 use con_rec::numbers::{next_number, next_transaction};
-use con_rec::parts::total_of;
+use con_rec::parts::total;
 use con_rec::payload::clip;
-use con_rec::{
-    Deadline, LoadedTransfer, Outstanding, Reason, SdoClientConnection, SdoClientConnectionState,
-    SdoJob, Taken, Transfer, Waiting,
-};
-use connection::ask::ended;
+use con_rec::{Reason, SdoClientConnection, SdoClientConnectionState, SdoJob, Waiting};
 
 // What a reply comes to: the connection after it, the room as it is; the same, with the payload put into the room from a place on; or no
 // room for it.
@@ -27,89 +39,23 @@ pub enum Decision {
     NoRoom,
 }
 
-// Where an upload ends in the room with so many bytes more, if they fit.
-#[derive(Clone, Copy)]
-pub enum RoomFor {
-    Upto(usize),
-    NoRoom,
-}
-
 // The command, deadline and retries are cleared, and a number is the last received.
 fn cleared(c: SdoClientConnection, last: u8) -> SdoClientConnection
     ensures { result ≡ cleared_of c last }
 {
     SdoClientConnection {
-        target_node_id: c.target_node_id,
-        room: c.room,
-        transaction_id: c.transaction_id,
-        send_sequence_number: c.send_sequence_number,
         last_received_sequence_number: last,
-        waiting: Waiting {
-            last_sent_command: Outstanding::Nothing,
-            deadline: Deadline::Never,
-            retries_left: 0,
-        },
+        waiting: Waiting::NOTHING,
         ..c
     }
-}
-
-fn in_state(c: SdoClientConnection, s: SdoClientConnectionState) -> SdoClientConnection
-    ensures { result ≡ in_state c s }
-{
-    SdoClientConnection {
-        target_node_id: c.target_node_id,
-        room: c.room,
-        state: s,
-        transaction_id: c.transaction_id,
-        send_sequence_number: c.send_sequence_number,
-        last_received_sequence_number: c.last_received_sequence_number,
-        ..c
-    }
-}
-
-fn one_more(n: u32) -> u32
-    ensures { result ≡ one_more n }
-{
-    if n < 4294967295 { n + 1 } else { n }
 }
 
 fn delivered_one(j: SdoJob) -> SdoJob
     ensures { result ≡ delivered_one j }
 {
     SdoJob {
-        size: j.size,
-        offset: j.offset,
-        uploaded: j.uploaded,
-        delivered: one_more(j.delivered),
+        delivered: j.delivered.saturating_add(1),
         ..j
-    }
-}
-
-fn with_transfer(j: SdoJob, t: Transfer, next: DcfCursor) -> SdoJob
-    ensures { result ≡ with_transfer j t next }
-{
-    SdoJob {
-        size: j.size,
-        cursor: next,
-        loaded: LoadedTransfer::Loaded(t),
-        offset: 0,
-        uploaded: j.uploaded,
-        delivered: j.delivered,
-        ..j
-    }
-}
-
-fn with_job(c: SdoClientConnection, job: SdoJob) -> SdoClientConnection
-    ensures { result ≡ with_job c job }
-{
-    SdoClientConnection {
-        target_node_id: c.target_node_id,
-        room: c.room,
-        transaction_id: c.transaction_id,
-        send_sequence_number: c.send_sequence_number,
-        last_received_sequence_number: c.last_received_sequence_number,
-        job,
-        ..c
     }
 }
 
@@ -117,249 +63,150 @@ fn with_job(c: SdoClientConnection, job: SdoJob) -> SdoClientConnection
 fn reply_next(d: DcfStep, c: SdoClientConnection) -> SdoClientConnection
     ensures { result ≡ reply_next d c }
 {
-    let before = c.job;
-    let job = delivered_one(before);
-    let DcfStep::Entry {
-        index,
-        sub_index,
-        start,
-        len,
-        next,
-    } = d
-    else {
-        if let DcfStep::Unreadable = d {
-            return ended(with_job(c, job), Reason::Cut);
-        }
-        return ended(with_job(c, job), Reason::Complete);
-    };
-    let t = Transfer {
-        index,
-        sub_index,
-        start,
-        len,
-    };
-    SdoClientConnection {
-        target_node_id: c.target_node_id,
-        room: c.room,
-        state: SdoClientConnectionState::Established,
-        transaction_id: next_transaction(c.transaction_id),
-        send_sequence_number: c.send_sequence_number,
-        last_received_sequence_number: c.last_received_sequence_number,
-        job: with_transfer(job, t, next),
+    let done = SdoClientConnection {
+        job: delivered_one(c.job),
         ..c
+    };
+    match d {
+        DcfStep::Entry { entry, next } => {
+            let job = SdoJob {
+                cursor: next,
+                loaded: Some(entry),
+                offset: 0,
+                ..done.job
+            };
+            SdoClientConnection {
+                state: SdoClientConnectionState::Established,
+                transaction_id: next_transaction(c.transaction_id),
+                job,
+                ..done
+            }
+        }
+        DcfStep::End => done.ended(Reason::Complete),
+        DcfStep::Unreadable => done.ended(Reason::Cut),
     }
 }
 
-fn reply_sent(loaded: LoadedTransfer, room: &[u8], c: SdoClientConnection) -> SdoClientConnection
-    ensures { result ≡ reply_sent loaded room.now c }
+fn reply_sent(room: &[u8], c: SdoClientConnection) -> SdoClientConnection
+    ensures { result ≡ reply_sent c.job.loaded room.now c }
 {
-    let job = c.job;
-    let cursor = job.cursor;
-    match loaded {
-        LoadedTransfer::Loaded(t) => {
-            if total_of(t) <= job.offset {
-                let own = clip(room, 0, job.size);
-                return reply_next(dcf_step(own, cursor), c);
-            }
-            return c;
+    match c.job.loaded {
+        Some(t) if total(t) <= c.job.offset => {
+            let own = clip(room, 0, c.job.size);
+            reply_next(dcf_step(own, c.job.cursor), c)
         }
-        LoadedTransfer::Unloaded => return c,
+        _ => c,
     }
 }
 
 fn with_bytes(c: SdoClientConnection, n: usize) -> SdoClientConnection
     ensures { result ≡ with_bytes c n }
 {
-    let job = c.job;
-    let uploaded = SdoJob {
-        size: job.size,
-        offset: job.offset,
-        uploaded: n,
-        delivered: job.delivered,
-        ..job
-    };
-    with_job(c, uploaded)
+    SdoClientConnection {
+        job: SdoJob {
+            uploaded: n,
+            ..c.job
+        },
+        ..c
+    }
 }
 
-fn room_for(from: usize, n: usize, room: &[u8]) -> RoomFor
+#[tactic(auto, unfolding(laws::specs::Pick::pick, crate::specs::Reply::room_for))]
+fn room_for(from: usize, n: usize, room: &[u8]) -> Option<usize>
     ensures { result ≡ room_for from n room.now }
 {
-    if room.len() < from {
-        return RoomFor::NoRoom;
-    }
-    if room.len() - from < n {
-        return RoomFor::NoRoom;
-    }
-    RoomFor::Upto(from + n)
+    let end = from.checked_add(n)?;
+    if end <= room.len() { Some(end) } else { None }
 }
 
-fn stored_last(f: RoomFor, c: SdoClientConnection, from: usize) -> Decision
+fn stored_last(f: Option<usize>, c: SdoClientConnection, from: usize) -> Decision
     ensures { result ≡ stored_last f c from }
 {
-    let RoomFor::Upto(end) = f else {
-        return Decision::NoRoom;
-    };
-    Decision::Stores(ended(with_bytes(c, end), Reason::Complete), from)
+    match f {
+        Some(end) => Decision::Stores(with_bytes(c, end).ended(Reason::Complete), from),
+        None => Decision::NoRoom,
+    }
 }
 
-fn stored_more(f: RoomFor, c: SdoClientConnection, from: usize) -> Decision
+fn stored_more(f: Option<usize>, c: SdoClientConnection, from: usize) -> Decision
     ensures { result ≡ stored_more f c from }
 {
-    let RoomFor::Upto(end) = f else {
-        return Decision::NoRoom;
-    };
-    Decision::Stores(with_bytes(c, end), from)
+    match f {
+        Some(end) => Decision::Stores(with_bytes(c, end), from),
+        None => Decision::NoRoom,
+    }
 }
 
 fn reply_first(kind: Segmentation, c: SdoClientConnection, n: usize, room: &[u8]) -> Decision
     ensures { result ≡ reply_first kind c n room.now }
 {
-    let next = match kind {
-        Segmentation::Expedited => return stored_last(room_for(0, n, room), c, 0),
+    match kind {
+        Segmentation::Expedited => stored_last(room_for(0, n, room), c, 0),
         Segmentation::Initiate => {
-            in_state(with_bytes(c, 0), SdoClientConnectionState::UploadInProgress)
+            let next = SdoClientConnection {
+                state: SdoClientConnectionState::UploadInProgress,
+                ..with_bytes(c, 0)
+            };
+            Decision::Keeps(next)
         }
-        Segmentation::Segment => ended(c, Reason::BadSegment),
-        Segmentation::Complete => ended(c, Reason::BadSegment),
-    };
-    Decision::Keeps(next)
+        Segmentation::Segment | Segmentation::Complete => {
+            Decision::Keeps(c.ended(Reason::BadSegment))
+        }
+    }
 }
 
 fn reply_more(kind: Segmentation, c: SdoClientConnection, n: usize, room: &[u8]) -> Decision
     ensures { result ≡ reply_more kind c n room.now }
 {
-    let job = c.job;
-    let from = job.uploaded;
-    let next = match kind {
-        Segmentation::Expedited => ended(c, Reason::BadSegment),
-        Segmentation::Initiate => ended(c, Reason::BadSegment),
-        Segmentation::Segment => return stored_more(room_for(from, n, room), c, from),
-        Segmentation::Complete => return stored_last(room_for(from, n, room), c, from),
-    };
-    Decision::Keeps(next)
-}
-
-fn receive_initializes(s: ReceiveConnState) -> bool
-    ensures { result ≡ receive_initializes s }
-{
-    match s {
-        ReceiveConnState::NoConnection => false,
-        ReceiveConnState::Initialization => true,
-        ReceiveConnState::ConnectionValid => false,
-        ReceiveConnState::ErrorResponse => false,
-    }
-}
-
-fn send_initializes(s: SendConnState) -> bool
-    ensures { result ≡ send_initializes s }
-{
-    match s {
-        SendConnState::NoConnection => false,
-        SendConnState::Initialization => true,
-        SendConnState::ConnectionValid => false,
-        SendConnState::ConnectionValidAckRequest => false,
+    let from = c.job.uploaded;
+    match kind {
+        Segmentation::Segment => stored_more(room_for(from, n, room), c, from),
+        Segmentation::Complete => stored_last(room_for(from, n, room), c, from),
+        Segmentation::Expedited | Segmentation::Initiate => {
+            Decision::Keeps(c.ended(Reason::BadSegment))
+        }
     }
 }
 
 fn reply_opening(seq: SequenceLayerHeader, c: SdoClientConnection) -> SdoClientConnection
     ensures { result ≡ reply_opening seq c }
 {
-    let receive_con = seq.receive_con;
-    let send_con = seq.send_con;
-    if receive_initializes(receive_con) {
-        if send_initializes(send_con) {
-            return in_state(c, SdoClientConnectionState::Established);
+    let receives = matches!(seq.receive_con, ReceiveConnState::Initialization);
+    let sends = matches!(seq.send_con, SendConnState::Initialization);
+    if receives && sends {
+        SdoClientConnection {
+            state: SdoClientConnectionState::Established,
+            ..c
         }
-        return ended(c, Reason::OpenRefused);
+    } else {
+        c.ended(Reason::OpenRefused)
     }
-    ended(c, Reason::OpenRefused)
 }
 
+// By the state that the command outstanding waits in.
 fn reply_in(
-    s: SdoClientConnectionState,
     seq: SequenceLayerHeader,
     kind: Segmentation,
     c: SdoClientConnection,
     n: usize,
     room: &[u8],
 ) -> Decision
-    ensures { result ≡ reply_in s seq kind c n room.now }
+    ensures { result ≡ reply_in c.state seq kind c n room.now }
 {
-    let job = c.job;
-    let loaded = job.loaded;
-    let next = match s {
-        SdoClientConnectionState::Idle => ended(c, Reason::Sequence),
-        SdoClientConnectionState::Opening => reply_opening(seq, c),
-        SdoClientConnectionState::Established => ended(c, Reason::Sequence),
-        SdoClientConnectionState::UploadInit => return reply_first(kind, c, n, room),
-        SdoClientConnectionState::UploadInProgress => return reply_more(kind, c, n, room),
-        SdoClientConnectionState::DownloadInProgress => reply_sent(loaded, room, c),
-        SdoClientConnectionState::Closed => ended(c, Reason::Sequence),
-    };
-    Decision::Keeps(next)
-}
-
-fn reply_taken(
-    seq: SequenceLayerHeader,
-    cmd: SdoCommand,
-    payload: &[u8],
-    c: SdoClientConnection,
-    room: &[u8],
-) -> Decision
-    ensures { result ≡ reply_taken seq cmd payload.now c room.now }
-{
-    let header = cmd.header;
-    let kind = header.segmentation;
-    let state = c.state;
-    if header.is_aborted {
-        let code = abort_code(payload);
-        return Decision::Keeps(ended(c, Reason::PeerAborted(code)));
-    }
-    reply_in(state, seq, kind, c, payload.len(), room)
-}
-
-fn reply_heard(
-    seq: SequenceLayerHeader,
-    cmd: SdoCommand,
-    payload: &[u8],
-    c: SdoClientConnection,
-    room: &[u8],
-) -> Decision
-    ensures { result ≡ reply_heard seq cmd payload.now c room.now }
-{
-    let last = c.last_received_sequence_number;
-    let number = seq.send_sequence_number;
-    if number == last {
-        return Decision::Keeps(cleared(c, last));
-    }
-    if number == next_number(last) {
-        return reply_taken(seq, cmd, payload, cleared(c, number), room);
-    }
-    Decision::Keeps(ended(c, Reason::Sequence))
-}
-
-fn reply_to(
-    o: Outstanding,
-    seq: SequenceLayerHeader,
-    cmd: SdoCommand,
-    payload: &[u8],
-    c: SdoClientConnection,
-    room: &[u8],
-) -> Decision
-    ensures { result ≡ reply_to o seq cmd payload.now c room.now }
-{
-    match o {
-        Outstanding::Nothing => return Decision::Keeps(c),
-        Outstanding::Waits(k) => {
-            if seq.receive_sequence_number == k.send {
-                return reply_heard(seq, cmd, payload, c, room);
-            }
-            return Decision::Keeps(c);
-        }
+    match c.state {
+        SdoClientConnectionState::Opening => Decision::Keeps(reply_opening(seq, c)),
+        SdoClientConnectionState::UploadInit => reply_first(kind, c, n, room),
+        SdoClientConnectionState::UploadInProgress => reply_more(kind, c, n, room),
+        SdoClientConnectionState::DownloadInProgress => Decision::Keeps(reply_sent(room, c)),
+        SdoClientConnectionState::Idle
+        | SdoClientConnectionState::Established
+        | SdoClientConnectionState::Closed => Decision::Keeps(c.ended(Reason::Sequence)),
     }
 }
 
-// What a reply comes to, decided before a byte is put.
+// What a reply comes to, decided before a byte is put: one for the command outstanding clears it; a duplicate stops there, a number that is
+// not the next one ends the job, and then the abort mark decides, or the state.
+#[tactic(auto, unfolding(laws::specs::Pick::pick, crate::specs::Reply::reply_of))]
 fn reply_of(
     seq: SequenceLayerHeader,
     cmd: SdoCommand,
@@ -369,9 +216,26 @@ fn reply_of(
 ) -> Decision
     ensures { result ≡ reply_of seq cmd payload.now c room.now }
 {
-    let waiting = c.waiting;
-    let outstanding = waiting.last_sent_command;
-    reply_to(outstanding, seq, cmd, payload, c, room)
+    let Some(outstanding) = c.waiting.last_sent_command else {
+        return Decision::Keeps(c);
+    };
+    if seq.receive_sequence_number != outstanding.send {
+        return Decision::Keeps(c);
+    }
+    let last = c.last_received_sequence_number;
+    let number = seq.send_sequence_number;
+    if number == last {
+        return Decision::Keeps(cleared(c, last));
+    }
+    if number != next_number(last) {
+        return Decision::Keeps(c.ended(Reason::Sequence));
+    }
+    let next = cleared(c, number);
+    if cmd.header.is_aborted {
+        let code = abort_code(payload);
+        return Decision::Keeps(next.ended(Reason::PeerAborted(code)));
+    }
+    reply_in(seq, cmd.header.segmentation, next, payload.len(), room)
 }
 
 // Takes a command from the server: its sequence header, the command and its payload. A reply that answers nothing outstanding
@@ -382,16 +246,16 @@ pub fn handle_response(
     cmd: SdoCommand,
     payload: &[u8],
     room: &mut [u8],
-) -> Taken
+) -> Result<SdoClientConnection, Refusal>
     ensures value { result ≡ replied (reply_of seq cmd payload.now c room.old) }
     ensures room_after { room.new ≡ room_after (reply_of seq cmd payload.now c room.old) payload.now room.old }
 {
     match reply_of(seq, cmd, payload, c, room) {
-        Decision::Keeps(d) => return Taken::Connection(d),
+        Decision::Keeps(d) => Ok(d),
         Decision::Stores(d, from) => {
-            put(room, from, payload);
-            return Taken::Connection(d);
+            let _ = put(room, from, payload);
+            Ok(d)
         }
-        Decision::NoRoom => return Taken::Refused(Refusal::NoRoom),
+        Decision::NoRoom => Err(Refusal::NoRoom),
     }
 }

@@ -1,4 +1,5 @@
 -- What a start comes to, as one of five cases, each with what decides it. A law about starts is shown by going through them.
+use Rattle.std.specs.Prelude.{Some, Result, Err}
 use Prim.Native.Nat.{ℕ, ◌+◌, ◌≤◌, ◌<◌}
 use native.Mathlib.Omega.{arith}
 use mathlib.Core.Path.{◌≡◌}
@@ -12,17 +13,17 @@ use Rattle.codec.specs.Dcf.{dcf_step}
 use Rattle.con_rec.specs.Deadline.{latest}
 use Rattle.connection.proofs.DueView.{due_at, timed}
 use Rattle.connection.specs.Start.{capacity, dcf_job, dcf_transaction, first_cursor, is_idle, read_job, start_dcf, start_read, start_write, started, started_at, write_job}
-use Rattle.connection.specs.Types.{Taken, Mode, Moment, Now, Refusal, SdoClientConnection as Connection, SdoJob}
+use Rattle.connection.specs.Types.{Mode, Now, Refusal, SdoClientConnection as Connection, SdoJob}
 
 -- ---- start: Busy, too short, no room for so many bytes, no deadline; or a job begins
-pub data StartView (c : Connection) (n : Now) (room : Bytes) (Short : Type 0) (size t : ℕ) (job : SdoJob) : Taken → Type 0 where
-  busy : is_idle c.state ≡ false → StartView c n room Short size t job (Taken.Refused Refusal.Busy)
-  short : is_idle c.state ≡ true → Short → StartView c n room Short size t job (Taken.Refused Refusal.DcfTooShort)
-  full : is_idle c.state ≡ true → (Short → ⊥) → capacity room < size → StartView c n room Short size t job (Taken.Refused Refusal.NoRoom)
+pub data StartView (c : Connection) (n : Now) (room : Bytes) (Short : Type 0) (size t : ℕ) (job : SdoJob) : Result Connection Refusal → Type 0 where
+  busy : is_idle c.state ≡ false → StartView c n room Short size t job (Err Refusal.Busy)
+  short : is_idle c.state ≡ true → Short → StartView c n room Short size t job (Err Refusal.DcfTooShort)
+  full : is_idle c.state ≡ true → (Short → ⊥) → capacity room < size → StartView c n room Short size t job (Err Refusal.NoRoom)
   late : is_idle c.state ≡ true → (Short → ⊥) → size ≤ capacity room → latest < due_at n
-      → StartView c n room Short size t job (Taken.Refused Refusal.DeadlineRange)
+      → StartView c n room Short size t job (Err Refusal.DeadlineRange)
   begun : is_idle c.state ≡ true → (Short → ⊥) → size ≤ capacity room → due_at n ≤ latest
-      → StartView c n room Short size t job (started_at (Moment.At (due_at n)) c t n job)
+      → StartView c n room Short size t job (started_at (Some (due_at n)) c t n job)
 
 module _ (c : Connection) (n : Now) (room : Bytes) where
   begins : (Short : Type 0) (size t : ℕ) (job : SdoJob) → is_idle c.state ≡ true → (Short → ⊥) → size ≤ capacity room
@@ -40,7 +41,7 @@ module _ (c : Connection) (n : Now) (room : Bytes) where
       (λ h. begins ⊥ (4 + length bytes) t (write_job mode index sub bytes) i (λ z. z) (leb-true _ _ h)) (λ h. full i (λ z. z) (leb-false _ _ h)))
       busy
     where
-      P : Taken → Type 0
+      P : Result Connection Refusal → Type 0
       P = StartView c n room ⊥ (4 + length bytes) t (write_job mode index sub bytes)
 
   pub read_view : (t : ℕ) (mode : Mode) (index sub : ℕ) → StartView c n room ⊥ 0 t (read_job mode index sub) (start_read c t n mode index sub)
@@ -61,7 +62,7 @@ module _ (c : Connection) (n : Now) (room : Bytes) where
       (λ h. full i (long (ltb-false _ _ s)) (leb-false _ _ h))))
       busy
     where
-      P : Taken → Type 0
+      P : Result Connection Refusal → Type 0
       P =
           StartView c n room (length dcf < 4) (length dcf) (dcf_transaction (dcf_step dcf (first_cursor dcf)) t)
           (dcf_job mode (dcf_step dcf (first_cursor dcf)) (length dcf) (first_cursor dcf))

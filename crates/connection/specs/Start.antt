@@ -2,24 +2,21 @@
 -- first entry if readable; each load adds 1 to the transaction. Refusals 4, 5, 7, 8, in this order. A start on Closed acts as on new.
 -- The mode that the start chooses is its job's (document 02, CR 2).
 -- Job bytes are the whole DCF, or a write's data plus its 4 head bytes; they lie at the start of the room.
-use Rattle.std.specs.Prelude.{ℕ, ◌+◌, min, Bool, true, false, ltb, leb, length}
+use Rattle.std.specs.Prelude.{ℕ, ◌+◌, min, Bool, true, false, ltb, leb, length, Option, Some, None, Result, Ok, Err}
+use Rattle.codec.specs.declared.refusal.Refusal.{Refusal}
+use Rattle.codec.specs.declared.request.ReadByIndexRequest.{ReadByIndexRequest}
+use Rattle.codec.specs.declared.dcf.Transfer.{Transfer}
+use Rattle.con_rec.specs.declared.SdoClientConnection.{SdoClientConnection}
 use Rattle.laws.specs.Pick.{pick}
 use Rattle.codec.specs.Bytes.{Bytes, placed}
 use Rattle.codec.specs.Dcf.{count_of, dcf_step}
 use Rattle.con_rec.specs.Deadline.{retries_of, deadline_of}
 use Rattle.con_rec.specs.Record.{updated, next_transaction}
 use Rattle.connection.specs.Types.{
-  Taken,
-  Deadline,
   DcfCursor,
   DcfStep,
-  LoadedTransfer,
   Mode,
-  Moment,
   Now,
-  Outcome,
-  Outstanding,
-  PendingRead,
   Refusal,
   SdoClientConnection,
   SdoClientConnectionState,
@@ -40,7 +37,7 @@ is_idle SdoClientConnectionState.Closed = true
 abbrev pub capacity : Bytes → ℕ
 capacity room = min (length room) 4294967295
 
-abbrev pub job_with : Mode → ℕ → DcfCursor → LoadedTransfer → PendingRead → SdoJob
+abbrev pub job_with : Mode → ℕ → DcfCursor → Option Transfer → Option ReadByIndexRequest → SdoJob
 job_with mode size cursor loaded read =
     record {
       size = size;
@@ -56,61 +53,61 @@ job_with mode size cursor loaded read =
 abbrev pub write_job : Mode → ℕ → ℕ → Bytes → SdoJob
 write_job mode index sub bytes =
     job_with mode (length bytes) (record { at = 0; left = 0 })
-    (LoadedTransfer.Loaded (record { index = index; sub_index = sub; start = 0; len = length bytes }))
-    PendingRead.NoRead
+    (Some (record { index = index; sub_index = sub; start = 0; len = length bytes }))
+    None
 
 abbrev pub read_job : Mode → ℕ → ℕ → SdoJob
-read_job mode index sub = job_with mode 0 (record { at = 0; left = 0 }) LoadedTransfer.Unloaded (PendingRead.Read index sub)
+read_job mode index sub = job_with mode 0 (record { at = 0; left = 0 }) None (Some (record { index = index; sub_index = sub }))
 
 -- a DCF's job by what its first step finds
 abbrev pub first_cursor : Bytes → DcfCursor
 first_cursor dcf = record { at = 4; left = count_of dcf }
 
 abbrev pub dcf_job : Mode → DcfStep → ℕ → DcfCursor → SdoJob
-dcf_job mode (DcfStep.Entry index sub start len next) size first =
+dcf_job mode (DcfStep.Entry entry next) size first =
     job_with mode size next
-    (LoadedTransfer.Loaded (record { index = index; sub_index = sub; start = start; len = len }))
-    PendingRead.NoRead
-dcf_job mode DcfStep.End size first = job_with mode size first LoadedTransfer.Unloaded PendingRead.NoRead
-dcf_job mode DcfStep.Unreadable size first = job_with mode size first LoadedTransfer.Unloaded PendingRead.NoRead
+    (Some entry)
+    None
+dcf_job mode DcfStep.End size first = job_with mode size first None None
+dcf_job mode DcfStep.Unreadable size first = job_with mode size first None None
 
 abbrev pub dcf_transaction : DcfStep → ℕ → ℕ
-dcf_transaction (DcfStep.Entry index sub start len next) t = next_transaction t
+dcf_transaction (DcfStep.Entry entry next) t = next_transaction t
 dcf_transaction DcfStep.End t = t
 dcf_transaction DcfStep.Unreadable t = t
 
 -- started, or refusal 8
-abbrev pub started_at : Moment → SdoClientConnection → ℕ → Now → SdoJob → Taken
-started_at Moment.OutOfRange c t n job = Taken.Refused Refusal.DeadlineRange
-started_at (Moment.At deadline) c t n job =
-    Taken.Connection
+abbrev pub started_at : Option ℕ → SdoClientConnection → ℕ → Now → SdoJob → Result SdoClientConnection Refusal
+started_at None c t n job = Err Refusal.DeadlineRange
+started_at (Some deadline) c t n job =
+    Ok
     (updated c SdoClientConnectionState.Opening t 0 63 job
-    (record { last_sent_command = Outstanding.Nothing; deadline = Deadline.At deadline; retries_left = retries_of n.retries })
-    Outcome.Running)
+    (record { last_sent_command = None; deadline = Some deadline; retries_left = retries_of n.retries })
+    None)
 
-unfoldable pub started : SdoClientConnection → ℕ → Now → SdoJob → Taken
+unfoldable pub started : SdoClientConnection → ℕ → Now → SdoJob → Result SdoClientConnection Refusal
 started c t n job = started_at (deadline_of n.time n.timeout) c t n job
 
-unfoldable pub start_read : SdoClientConnection → ℕ → Now → Mode → ℕ → ℕ → Taken
+unfoldable pub start_read : SdoClientConnection → ℕ → Now → Mode → ℕ → ℕ → Result SdoClientConnection Refusal
 start_read c t n mode index sub =
-    pick (is_idle c.state) (started c t n (read_job mode index sub)) (Taken.Refused Refusal.Busy)
+    pick (is_idle c.state) (started c t n (read_job mode index sub)) (Err Refusal.Busy)
 
-unfoldable pub start_write : SdoClientConnection → ℕ → Now → Mode → ℕ → ℕ → Bytes → Bytes → Taken
+unfoldable pub start_write : SdoClientConnection → ℕ → Now → Mode → ℕ → ℕ → Bytes → Bytes → Result SdoClientConnection Refusal
 start_write c t n mode index sub bytes room =
     pick (is_idle c.state)
-    (pick (leb (4 + length bytes) (capacity room)) (started c t n (write_job mode index sub bytes)) (Taken.Refused Refusal.NoRoom))
-    (Taken.Refused Refusal.Busy)
+    (pick (leb (4 + length bytes) (capacity room)) (started c t n (write_job mode index sub bytes)) (Err Refusal.NoRoom))
+    (Err Refusal.Busy)
 
-unfoldable pub start_dcf : SdoClientConnection → ℕ → Now → Mode → Bytes → Bytes → Taken
+unfoldable pub start_dcf : SdoClientConnection → ℕ → Now → Mode → Bytes → Bytes → Result SdoClientConnection Refusal
 start_dcf c t n mode dcf room =
     pick (is_idle c.state)
-    (pick (ltb (length dcf) 4) (Taken.Refused Refusal.DcfTooShort)
+    (pick (ltb (length dcf) 4) (Err Refusal.DcfTooShort)
     (pick (leb (length dcf) (capacity room))
     (started c (dcf_transaction (dcf_step dcf (first_cursor dcf)) t) n (dcf_job mode (dcf_step dcf (first_cursor dcf)) (length dcf) (first_cursor dcf)))
-    (Taken.Refused Refusal.NoRoom)))
-    (Taken.Refused Refusal.Busy)
+    (Err Refusal.NoRoom)))
+    (Err Refusal.Busy)
 
 -- the room as a start leaves it: the job's bytes at its start, or as it was where the start was refused
-abbrev pub room_with : Taken → Bytes → Bytes → Bytes
-room_with (Taken.Connection c) bytes room = placed room 0 bytes
-room_with (Taken.Refused r) bytes room = room
+abbrev pub room_with : Result SdoClientConnection Refusal → Bytes → Bytes → Bytes
+room_with (Ok c) bytes room = placed room 0 bytes
+room_with (Err r) bytes room = room

@@ -6,9 +6,22 @@ ghost use Rattle.std.specs.Prelude.{◌≤◌, length};
 
 use codec::command::SdoCommand;
 use codec::octets::part;
-use codec::sequence::{SequenceLayerHeader, Written};
-use std::io;
+use codec::sequence::SequenceLayerHeader;
 use std::io::Read;
+use std::{fmt, io};
+
+// A value, or `-` for none.
+#[derive(Clone, Copy)]
+pub struct OrDash<T>(pub Option<T>);
+
+impl<T: fmt::Display> fmt::Display for OrDash<T> {
+    fn fmt<W: fmt::Write>(&self, f: &mut fmt::Formatter<W>) -> fmt::Result {
+        match &self.0 {
+            Some(x) => write!(f, "{x}"),
+            None => write!(f, "-"),
+        }
+    }
+}
 
 // Reads until the buffer is full, the input ends or a read fails, and answers how many bytes there are at the buffer's start then.
 pub fn read_full(from: &mut impl Read, buf: &mut [u8]) -> usize
@@ -72,9 +85,9 @@ pub fn frame(
 {
     let mut header = [0u8; 4];
     let mut bytes = [0u8; 1464];
-    sequence.serialize(&mut header);
+    let _ = sequence.serialize(&mut header);
     octets(rt, &header)?;
-    let Written::Bytes(n) = command.serialize(payload, &mut bytes) else {
+    let Ok(n) = command.serialize(payload, &mut bytes) else {
         return Ok(());
     };
     octets(rt, part(&bytes, 0, n))

@@ -1,11 +1,9 @@
 // A simulated cell: a pressure transmitter's SDO server, as much of it as a load and a read need. Its objects are a table in memory: a write to
 // one of them is kept there, a read of one is answered with what it was given, four bytes at most, and a read of any other is aborted. Every other command is
 // acknowledged.
-ghost use Rattle.std.specs.Prelude.{◌<◌};
-
-use codec::command::{CommandId, CommandLayerHeader, DataSize, SdoCommand, Segmentation};
-use codec::octets::{FourOctets, octets32, part};
-use codec::request::{ReadByIndexRead, ReadByIndexRequest, WriteByIndexRead, WriteByIndexRequest};
+use codec::command::{CommandId, CommandLayerHeader, SdoCommand, Segmentation};
+use codec::octets::part;
+use codec::request::{ReadByIndexRequest, WriteByIndexRequest};
 use codec::sequence::{ReceiveConnState, SendConnState, SequenceLayerHeader};
 use manager::types::SentTo;
 
@@ -20,196 +18,158 @@ pub(crate) struct Object {
 
 #[derive(Clone, Copy)]
 pub(crate) struct Cell {
-    pub first: Object,
-    pub second: Object,
+    pub objects: [Object; 2],
 }
 
-// What the cell answers: its table after the command, the headers of the reply, and its data, of which the reply carries as many bytes as its
-// segment size says.
+// What the cell answers: the headers of the reply, and its data, of which the reply carries as many bytes as its segment size says.
 #[derive(Clone, Copy)]
 pub(crate) struct Reply {
-    pub cell: Cell,
     pub sequence: SequenceLayerHeader,
     pub command: SdoCommand,
-    pub data: FourOctets,
+    pub data: [u8; 4],
 }
 
 // The data that a reply carries: how many of the four bytes, and whether they are the code of an abort.
 #[derive(Clone, Copy)]
 struct Carried {
-    data: FourOctets,
+    data: [u8; 4],
     bytes: u16,
     is_aborted: bool,
 }
 
+const NOTHING: Carried = Carried {
+    data: [0; 4],
+    bytes: 0,
+    is_aborted: false,
+};
+
 // EPSG DS 301's code for an object that is not there.
 const NO_SUCH_OBJECT: u32 = 0x06020000;
 
-// A cell that nothing was loaded into.
-pub(crate) fn new() -> Cell {
-    Cell {
-        first: Object {
-            index: 0x2100,
-            sub_index: 1,
-            bytes: 0,
-            value: 0,
-        },
-        second: Object {
-            index: 0x2101,
-            sub_index: 0,
-            bytes: 0,
-            value: 0,
-        },
-    }
-}
-
-fn byte(b: &[u8], at: usize) -> u8 {
-    if at < b.len() {
-        return b[at];
-    }
-    0
-}
-
-fn wide(x: u8) -> u32
-    ensures { result < 256 }
-{
-    x as u32
-}
-
 // The first four bytes as a number, those past the end being 0.
 fn number(b: &[u8]) -> u32 {
-    let low = wide(byte(b, 0)) + 256 * wide(byte(b, 1));
-    let high = wide(byte(b, 2)) + 256 * wide(byte(b, 3));
-    low + 65536 * high
+    let mut four = [0; 4];
+    let n = b.len().min(4);
+    four[..n].copy_from_slice(&b[..n]);
+    u32::from_le_bytes(four)
 }
 
-fn is_at(o: Object, index: u16, sub_index: u8) -> bool {
-    o.index == index && o.sub_index == sub_index
-}
+impl Object {
+    // An object that was given nothing.
+    fn new(index: u16, sub_index: u8) -> Object {
+        Object {
+            index,
+            sub_index,
+            bytes: 0,
+            value: 0,
+        }
+    }
 
-// The object with what a write brings, if the write is for it.
-fn written(o: Object, r: WriteByIndexRequest, payload: &[u8]) -> Object {
-    if is_at(o, r.index, r.sub_index) {
-        return Object {
-            bytes: r.len,
-            value: number(part(payload, r.start, r.len)),
-            ..o
-        };
+    fn is_at(&self, index: u16, sub_index: u8) -> bool {
+        self.index == index && self.sub_index == sub_index
     }
-    o
-}
 
-// What an object was given, its first four bytes at most.
-fn content(o: Object) -> Carried {
-    let given = o.bytes;
-    let bytes = if given < 4 { given as u16 } else { 4 };
-    Carried {
-        data: octets32(o.value),
-        bytes,
-        is_aborted: false,
-    }
-}
-
-fn read(c: Cell, r: ReadByIndexRequest) -> Carried {
-    let first = c.first;
-    let second = c.second;
-    if is_at(first, r.index, r.sub_index) {
-        return content(first);
-    }
-    if is_at(second, r.index, r.sub_index) {
-        return content(second);
-    }
-    Carried {
-        data: octets32(NO_SUCH_OBJECT),
-        bytes: 4,
-        is_aborted: true,
+    // What the object was given, its first four bytes at most.
+    fn content(&self) -> Carried {
+        Carried {
+            data: self.value.to_le_bytes(),
+            bytes: self.bytes.min(4) as u16,
+            is_aborted: false,
+        }
     }
 }
 
-// What the reply to a command carries: only a ReadByIndex is answered with data.
-fn reply_data(c: Cell, id: CommandId, payload: &[u8]) -> Carried {
-    let nothing = Carried {
-        data: [0; 4],
-        bytes: 0,
-        is_aborted: false,
-    };
-    match id {
-        CommandId::ReadByIndex => match ReadByIndexRequest::from_payload(payload) {
-            ReadByIndexRead::Request(r) => read(c, r),
-            ReadByIndexRead::Refused(_) => nothing,
-        },
-        _ => nothing,
+impl Cell {
+    // A cell that nothing was loaded into.
+    pub(crate) fn new() -> Cell {
+        Cell {
+            objects: [Object::new(0x2100, 1), Object::new(0x2101, 0)],
+        }
+    }
+
+    fn read(&self, r: ReadByIndexRequest) -> Carried {
+        match self.objects.iter().find(|o| o.is_at(r.index, r.sub_index)) {
+            Some(o) => o.content(),
+            None => Carried {
+                data: NO_SUCH_OBJECT.to_le_bytes(),
+                bytes: 4,
+                is_aborted: true,
+            },
+        }
+    }
+
+    fn write(&mut self, r: WriteByIndexRequest, payload: &[u8]) {
+        for o in &mut self.objects {
+            if o.is_at(r.index, r.sub_index) {
+                o.bytes = r.len;
+                o.value = number(part(payload, r.start, r.len));
+            }
+        }
+    }
+
+    // What a command does to the table, and what the reply carries: only a WriteByIndex changes it, and only a ReadByIndex is answered with data.
+    fn take(&mut self, id: CommandId, payload: &[u8]) -> Carried {
+        match id {
+            CommandId::ReadByIndex => {
+                if let Ok(r) = ReadByIndexRequest::from_payload(payload) {
+                    return self.read(r);
+                }
+            }
+            CommandId::WriteByIndex => {
+                if let Ok(r) = WriteByIndexRequest::from_payload(payload) {
+                    self.write(r, payload);
+                }
+            }
+            _ => {}
+        }
+        NOTHING
+    }
+
+    // The cell's answer to a command and its payload.
+    pub(crate) fn answer(&mut self, sent: SentTo, payload: &[u8]) -> Reply {
+        let carried = self.take(sent.command.header.command_id, payload);
+        let data = carried.data;
+        Reply {
+            sequence: sequence(sent.sequence),
+            command: response(sent.command, carried),
+            data,
+        }
     }
 }
 
 // The reply's numbers: the number received is the command's own, and the number sent follows the last that the client received. The
 // opening is answered by Initialization, all else by ConnectionValid.
 fn sequence(asked: SequenceLayerHeader) -> SequenceLayerHeader {
-    let state = asked.send_con;
-    let last = asked.receive_sequence_number % 64;
-    let send_sequence_number = (last + 1) % 64;
-    match state {
-        SendConnState::Initialization => SequenceLayerHeader {
-            receive_sequence_number: asked.send_sequence_number,
-            receive_con: ReceiveConnState::Initialization,
-            send_sequence_number,
-            send_con: SendConnState::Initialization,
-        },
-        _ => SequenceLayerHeader {
-            receive_sequence_number: asked.send_sequence_number,
-            receive_con: ReceiveConnState::ConnectionValid,
-            send_sequence_number,
-            send_con: SendConnState::ConnectionValid,
-        },
+    let (receive_con, send_con) = match asked.send_con {
+        SendConnState::Initialization => {
+            (
+                ReceiveConnState::Initialization,
+                SendConnState::Initialization,
+            )
+        }
+        _ => (
+            ReceiveConnState::ConnectionValid,
+            SendConnState::ConnectionValid,
+        ),
+    };
+    SequenceLayerHeader {
+        receive_sequence_number: asked.send_sequence_number,
+        receive_con,
+        send_sequence_number: (asked.receive_sequence_number % 64 + 1) % 64,
+        send_con,
     }
 }
 
 fn response(asked: SdoCommand, carried: Carried) -> SdoCommand {
-    let header = asked.header;
-    let command_id = header.command_id;
     SdoCommand {
         header: CommandLayerHeader {
-            transaction_id: header.transaction_id,
+            transaction_id: asked.header.transaction_id,
             is_response: true,
             is_aborted: carried.is_aborted,
             segmentation: Segmentation::Expedited,
-            command_id,
+            command_id: asked.header.command_id,
             segment_size: carried.bytes,
         },
-        data_size: DataSize::Absent,
-    }
-}
-
-// The table after a command: only a WriteByIndex changes it.
-fn stored(c: Cell, id: CommandId, payload: &[u8]) -> Cell {
-    match id {
-        CommandId::WriteByIndex => match WriteByIndexRequest::from_payload(payload) {
-            WriteByIndexRead::Request(r) => {
-                let first = c.first;
-                let second = c.second;
-                Cell {
-                    first: written(first, r, payload),
-                    second: written(second, r, payload),
-                }
-            }
-            WriteByIndexRead::Refused(_) => c,
-        },
-        _ => c,
-    }
-}
-
-// The cell's answer to a command and its payload.
-pub(crate) fn answer(c: Cell, sent: SentTo, payload: &[u8]) -> Reply {
-    let asked = sent.command;
-    let header = asked.header;
-    let id = header.command_id;
-    let numbers = sent.sequence;
-    let carried = reply_data(c, id, payload);
-    let data = carried.data;
-    Reply {
-        cell: stored(c, id, payload),
-        sequence: sequence(numbers),
-        command: response(asked, carried),
-        data,
+        data_size: None,
     }
 }

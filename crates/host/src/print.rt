@@ -1,12 +1,10 @@
 // What happens, on standard output.
-use crate::cell::{Cell, Object};
+use crate::cell::Cell;
 use codec::command::SdoCommand;
 use codec::octets::part;
-use codec::refusal::refusal_number;
 use codec::sequence::SequenceLayerHeader;
-use con_rec::numbers::at_most;
-use con_rec::{Deadline, End, Reason};
-use console::{hex, number, octets, small, text};
+use con_rec::Reason;
+use console::octets;
 use man_lent::types::Told;
 use man_table::types::Ends;
 use manager::types::Answer;
@@ -18,61 +16,47 @@ const MOST_SHOWN: usize = 16;
 // A frame on a line: where it goes, and its bytes, sequence header and command; of a long payload its first bytes, and how many it has.
 pub(crate) fn frame(
     rt: &impl Print,
-    way: &[u8],
+    way: &str,
     node: u8,
     sequence: SequenceLayerHeader,
     command: SdoCommand,
     payload: &[u8],
 ) -> io::Result<()> {
-    text(rt, way)?;
-    small(rt, node)?;
-    text(rt, b" ")?;
-    let shown = at_most(payload.len(), MOST_SHOWN);
-    console::frame(rt, sequence, command, part(payload, 0, shown))?;
-    if shown < payload.len() {
-        text(rt, b" .. ")?;
-        number(rt, payload.len() as u64)?;
-        text(rt, b" bytes")?;
+    print!(rt; "{way:<4} {node} ")?;
+    let size = payload.len();
+    let shown = size.min(MOST_SHOWN);
+    console::frame(rt, sequence, command, &payload[..shown])?;
+    if shown < size {
+        print!(rt; " .. {size} bytes")?;
     }
-    text(rt, b"\n")
+    println!(rt)
 }
 
 // The payload of a command is at the start of the output, as long as its segment size says.
 pub(crate) fn payload_of(command: SdoCommand, output: &[u8]) -> &[u8] {
-    let header = command.header;
-    part(output, 0, header.segment_size as usize)
+    part(output, 0, command.header.segment_size as usize)
 }
 
-fn reason(rt: &impl Print, r: Reason) -> io::Result<()> {
+fn reason(r: Reason) -> &'static str {
     match r {
-        Reason::Complete => text(rt, b"Complete"),
-        Reason::Cut => text(rt, b"Cut"),
-        Reason::OpenRefused => text(rt, b"OpenRefused"),
-        Reason::Sequence => text(rt, b"Sequence"),
-        Reason::PeerAborted(_) => text(rt, b"PeerAborted"),
-        Reason::Timeout => text(rt, b"Timeout"),
-        Reason::BadSegment => text(rt, b"BadSegment"),
+        Reason::Complete => "Complete",
+        Reason::Cut => "Cut",
+        Reason::OpenRefused => "OpenRefused",
+        Reason::Sequence => "Sequence",
+        Reason::PeerAborted(_) => "PeerAborted",
+        Reason::Timeout => "Timeout",
+        Reason::BadSegment => "BadSegment",
     }
 }
 
-fn end(rt: &impl Print, e: End) -> io::Result<()> {
-    let why = e.reason;
-    text(rt, b"end ")?;
-    small(rt, e.node)?;
-    text(rt, b" ")?;
-    reason(rt, why)?;
-    text(rt, b", delivered ")?;
-    number(rt, e.delivered as u64)?;
-    text(rt, b"\n")
-}
-
 fn ends(rt: &impl Print, e: Ends) -> io::Result<()> {
-    let list = e.list;
-    let count = e.count;
-    for i in 0..8 {
-        if i < count {
-            end(rt, list[i])?;
-        }
+    for end in e.list.iter().take(e.count) {
+        println!(rt;
+            "end {} {}, delivered {}",
+            end.node,
+            reason(end.reason),
+            end.delivered
+        )?;
     }
     Ok(())
 }
@@ -80,73 +64,47 @@ fn ends(rt: &impl Print, e: Ends) -> io::Result<()> {
 // What a call told: a refusal's number, a command that goes out, or nothing; and the ends. A part of the store is no value yet: its
 // bytes are printed by `value`, once they are handed out.
 pub(crate) fn told(rt: &impl Print, t: Told, output: &[u8]) -> io::Result<()> {
-    let answer = t.answer;
-    let list = t.ends;
-    match answer {
-        Answer::Nothing => {}
+    match t.answer {
+        Answer::Nothing | Answer::Value(_) => {}
         Answer::Sent(s) => {
-            let sequence = s.sequence;
-            let command = s.command;
             frame(
                 rt,
-                b"to   ",
+                "to",
                 s.node,
-                sequence,
-                command,
-                payload_of(command, output),
+                s.sequence,
+                s.command,
+                payload_of(s.command, output),
             )?;
         }
-        Answer::Value(_) => {}
-        Answer::Refused(r) => {
-            text(rt, b"refused ")?;
-            small(rt, refusal_number(r))?;
-            text(rt, b"\n")?;
-        }
+        Answer::Refused(r) => println!(rt; "refused {}", u8::from(r))?,
     }
-    ends(rt, list)
+    ends(rt, t.ends)
 }
 
-pub(crate) fn next(rt: &impl Print, d: Deadline) -> io::Result<()> {
-    text(rt, b"next ")?;
-    match d {
-        Deadline::At(t) => number(rt, t)?,
-        Deadline::Never => text(rt, b"-")?,
+pub(crate) fn next(rt: &impl Print, due: Option<u64>) -> io::Result<()> {
+    match due {
+        Some(time) => println!(rt; "next {time}"),
+        None => println!(rt; "next -"),
     }
-    text(rt, b"\n")
-}
-
-// An object's index and sub-index, and a space.
-fn name(rt: &impl Print, index: u16, sub_index: u8) -> io::Result<()> {
-    hex(rt, index as u64, 4)?;
-    text(rt, b":")?;
-    hex(rt, sub_index as u64, 2)?;
-    text(rt, b" ")
 }
 
 // What a read of an object brought.
 pub(crate) fn value(rt: &impl Print, index: u16, sub_index: u8, bytes: &[u8]) -> io::Result<()> {
-    text(rt, b"value ")?;
-    name(rt, index, sub_index)?;
-    if bytes.len() == 0 {
-        text(rt, b"-")?;
+    print!(rt; "value {index:04x}:{sub_index:02x} ")?;
+    if bytes.is_empty() {
+        print!(rt; "-")?;
     }
     octets(rt, bytes)?;
-    text(rt, b"\n")
-}
-
-fn object(rt: &impl Print, o: Object) -> io::Result<()> {
-    text(rt, b"object ")?;
-    name(rt, o.index, o.sub_index)?;
-    number(rt, o.bytes as u64)?;
-    text(rt, b" bytes, ")?;
-    number(rt, o.value as u64)?;
-    text(rt, b"\n")
+    println!(rt)
 }
 
 // The cell's table.
-pub(crate) fn objects(rt: &impl Print, c: Cell) -> io::Result<()> {
-    let first = c.first;
-    let second = c.second;
-    object(rt, first)?;
-    object(rt, second)
+pub(crate) fn objects(rt: &impl Print, c: &Cell) -> io::Result<()> {
+    for o in &c.objects {
+        println!(rt;
+            "object {:04x}:{:02x} {} bytes, {}",
+            o.index, o.sub_index, o.bytes, o.value
+        )?;
+    }
+    Ok(())
 }

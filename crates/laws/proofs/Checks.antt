@@ -1,4 +1,5 @@
 -- An answer that goes by its checks, made in order, refuses exactly when the first cause that holds is that refusal's.
+use Rattle.std.specs.Prelude.{Result, Ok, Err}
 use Prim.Native.Nat.{ℕ, ◌<◌, ◌≤◌}
 use native.Mathlib.Omega.{arith}
 use mathlib.Core.Path.{◌≡◌, refl, sym, ◌∙◌, ap}
@@ -62,6 +63,17 @@ module _ {R A : Type 0} (refused : R → A) (Unrefused : A → Type 0) where
     unrefused (c ∷ l) x (inl a) = (λ u. absurd (never c.refusal (rw a.1 at u)), λ n. absurd (n.0 a.0))
     unrefused (c ∷ l) x (inr a) =
         let rest = unrefused l x a.1 in (λ u. (a.0, rest.0 u), λ n. rest.1 n.1)
+
+-- An answer that is a `Result` refuses by `Err`: `Ok` is no refusal's, and no two refusals have one `Err`.
+module _ {R T : Type 0} where
+  pub ok_otherwise : (x : T) → Otherwise {R = R} {A = Result T R} Err (Ok x)
+  ok_otherwise x r e = cc
+
+  abbrev pub Goes : List (Check R) → Result T R → Type 0
+  Goes = Answers Err (Otherwise Err)
+
+  pub goes_exactly : (l : List (Check R)) (x : Result T R) → Goes l x → Exactly Err l x
+  goes_exactly = exactly Err (Otherwise Err) (λ r h. h r refl) (λ r s e. cc)
 
 -- what is told of an answer goes by the answer's checks, and then by more
 pub told_by_lem : {R A B : Type 0} (refused : R → A) (Unrefused : A → Type 0) (refused' : R → B) (Unrefused' : B → Type 0) (tell : A → B)

@@ -15,19 +15,6 @@ module _ {A B : Type 0} (h : A × B) where
   pub value_gather : record { value : A; gather_after : B }
   value_gather = record { value = h.0; gather_after = h.1 }
 
-  pub put_bound : record { put : A; upper_bound : B }
-  put_bound = record { put = h.0; upper_bound = h.1 }
-
-  pub put_value : record { put : A; value : B }
-  put_value = record { put = h.0; value = h.1 }
-
-module _ {A B C : Type 0} (h : A × (B × C)) where
-  pub value_out_short : record { value : A; out_after : B; short : C }
-  value_out_short = record { value = h.0; out_after = h.1.0; short = h.1.1 }
-
-  pub value_text : record { value : A; text_after : B; text_len_unchanged : C }
-  value_text = record { value = h.0; text_after = h.1.0; text_len_unchanged = h.1.1 }
-
 pub value_output_text : {A B C D : Type 0} → A × (B × (C × D))
     → record { value : A; output_after : B; text_after : C; lengths_unchanged : D }
 value_output_text h = record { value = h.0; output_after = h.1.0; text_after = h.1.1.0; lengths_unchanged = h.1.1.1 }

@@ -13,12 +13,25 @@ ghost use Rattle.man_lent.specs.Lent.{told_of};
 use crate::types::Told;
 use codec::command::SdoCommand;
 use codec::sequence::SequenceLayerHeader;
-use con_rec::{Deadline, Mode, Now};
+use con_rec::{Mode, Now};
 use man_table::types::{SdoClientManager, Turn};
 use man_value::StorePart;
+use manager::types::Done;
+use manager::{next, reply, start, turn};
 
 pub mod types;
-pub(crate) mod value;
+
+// Keeps the manager that a call left, and tells the rest.
+fn kept(m: &mut SdoClientManager, d: Done) -> Told
+    ensures value { result ≡ told_of d }
+    ensures manager_after { m.new ≡ d.manager }
+{
+    *m = d.manager;
+    Told {
+        answer: d.answer,
+        ends: d.ends,
+    }
+}
 
 // Starts a concise DCF job for a node.
 pub fn start_configuration_download(
@@ -29,11 +42,12 @@ pub fn start_configuration_download(
     when: Now,
     store: &mut [u8],
 ) -> Told
-    ensures { ((result ≡ told_of (called m.old store.old [] (starts target (loads mode dcf.now) «when»)).done) × (m.new ≡ (called m.old store.old [] (starts target (loads mode dcf.now) «when»)).done.manager)) × (store.new ≡ (called m.old store.old [] (starts target (loads mode dcf.now) «when»)).store) }
+    ensures value { result ≡ told_of (called m.old store.old [] (starts target (loads mode dcf.now) «when»)).done }
+    ensures manager_after { m.new ≡ (called m.old store.old [] (starts target (loads mode dcf.now) «when»)).done.manager }
+    ensures store_after { store.new ≡ (called m.old store.old [] (starts target (loads mode dcf.now) «when»)).store }
 {
-    let a = crate::value::loading(*m, target, mode, dcf, when, store);
-    *m = a.manager;
-    a.told
+    let d = start::start_configuration_download(*m, target, mode, dcf, when, store);
+    kept(m, d)
 }
 
 // Starts a job that writes an object of a node.
@@ -47,11 +61,12 @@ pub fn write_object_by_index(
     when: Now,
     store: &mut [u8],
 ) -> Told
-    ensures { ((result ≡ told_of (called m.old store.old [] (starts target (writes mode index sub_index bytes.now) «when»)).done) × (m.new ≡ (called m.old store.old [] (starts target (writes mode index sub_index bytes.now) «when»)).done.manager)) × (store.new ≡ (called m.old store.old [] (starts target (writes mode index sub_index bytes.now) «when»)).store) }
+    ensures value { result ≡ told_of (called m.old store.old [] (starts target (writes mode index sub_index bytes.now) «when»)).done }
+    ensures manager_after { m.new ≡ (called m.old store.old [] (starts target (writes mode index sub_index bytes.now) «when»)).done.manager }
+    ensures store_after { store.new ≡ (called m.old store.old [] (starts target (writes mode index sub_index bytes.now) «when»)).store }
 {
-    let a = crate::value::writing(*m, target, mode, index, sub_index, bytes, when, store);
-    *m = a.manager;
-    a.told
+    let d = start::write_object_by_index(*m, target, mode, index, sub_index, bytes, when, store);
+    kept(m, d)
 }
 
 // Starts a job that reads an object of a node.
@@ -64,11 +79,11 @@ pub fn read_object_by_index(
     when: Now,
     store: &[u8],
 ) -> Told
-    ensures { (result ≡ told_of (called m.old store.now [] (starts target (reads mode index sub_index) «when»)).done) × (m.new ≡ (called m.old store.now [] (starts target (reads mode index sub_index) «when»)).done.manager) }
+    ensures value { result ≡ told_of (called m.old store.now [] (starts target (reads mode index sub_index) «when»)).done }
+    ensures manager_after { m.new ≡ (called m.old store.now [] (starts target (reads mode index sub_index) «when»)).done.manager }
 {
-    let a = crate::value::reading(*m, target, mode, index, sub_index, when, store);
-    *m = a.manager;
-    a.told
+    let d = start::read_object_by_index(*m, target, mode, index, sub_index, when, store);
+    kept(m, d)
 }
 
 // Takes a command from a node: its sequence header, the command and its payload. Where it ends a read Complete the answer is the part of the store that
@@ -81,11 +96,12 @@ pub fn handle_response(
     payload: &[u8],
     store: &mut [u8],
 ) -> Told
-    ensures { ((result ≡ told_of (called m.old store.old [] (replies source seq cmd payload.now)).done) × (m.new ≡ (called m.old store.old [] (replies source seq cmd payload.now)).done.manager)) × (store.new ≡ (called m.old store.old [] (replies source seq cmd payload.now)).store) }
+    ensures value { result ≡ told_of (called m.old store.old [] (replies source seq cmd payload.now)).done }
+    ensures manager_after { m.new ≡ (called m.old store.old [] (replies source seq cmd payload.now)).done.manager }
+    ensures store_after { store.new ≡ (called m.old store.old [] (replies source seq cmd payload.now)).store }
 {
-    let a = crate::value::replying(*m, source, seq, cmd, payload, store);
-    *m = a.manager;
-    a.told
+    let d = reply::handle_response(*m, source, seq, cmd, payload, store);
+    kept(m, d)
 }
 
 // Hands out the part of the store that a reply answered. Call it before the next start, reply, tick or ask: they may use its bytes again. It needs no
@@ -104,25 +120,27 @@ pub fn get_pending_request(
     store: &[u8],
     output: &mut [u8],
 ) -> Told
-    ensures { ((result ≡ told_of (called m.old store.now output.old (turns Turn.Asking «when»)).done) × (m.new ≡ (called m.old store.now output.old (turns Turn.Asking «when»)).done.manager)) × (output.new ≡ (called m.old store.now output.old (turns Turn.Asking «when»)).output) }
+    ensures value { result ≡ told_of (called m.old store.now output.old (turns Turn.Asking «when»)).done }
+    ensures manager_after { m.new ≡ (called m.old store.now output.old (turns Turn.Asking «when»)).done.manager }
+    ensures output_after { output.new ≡ (called m.old store.now output.old (turns Turn.Asking «when»)).output }
 {
-    let a = crate::value::asking(*m, when, store, output);
-    *m = a.manager;
-    a.told
+    let d = turn::get_pending_request(*m, when, store, output);
+    kept(m, d)
 }
 
 // What the deadlines that have passed bring about: a repeat or an abort to send, and ends. Call it when next_action_time has come.
 pub fn tick(m: &mut SdoClientManager, when: Now, store: &[u8], output: &mut [u8]) -> Told
-    ensures { ((result ≡ told_of (called m.old store.now output.old (turns Turn.Ticking «when»)).done) × (m.new ≡ (called m.old store.now output.old (turns Turn.Ticking «when»)).done.manager)) × (output.new ≡ (called m.old store.now output.old (turns Turn.Ticking «when»)).output) }
+    ensures value { result ≡ told_of (called m.old store.now output.old (turns Turn.Ticking «when»)).done }
+    ensures manager_after { m.new ≡ (called m.old store.now output.old (turns Turn.Ticking «when»)).done.manager }
+    ensures output_after { output.new ≡ (called m.old store.now output.old (turns Turn.Ticking «when»)).output }
 {
-    let a = crate::value::ticking(*m, when, store, output);
-    *m = a.manager;
-    a.told
+    let d = turn::tick(*m, when, store, output);
+    kept(m, d)
 }
 
 // The least deadline of the connections held, or none: when the host should call tick next.
-pub fn next_action_time(m: &SdoClientManager) -> Deadline
+pub fn next_action_time(m: &SdoClientManager) -> Option<u64>
     ensures { result ≡ least_deadline (live m.now) }
 {
-    crate::value::soonest(*m)
+    next::next_action_time(*m)
 }

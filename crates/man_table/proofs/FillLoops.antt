@@ -1,46 +1,41 @@
 -- Loops that fill eight places from the connections of a table, and the one that blanks the places past the first of them. The invariant of
 -- those that fill: the places hold, from the front, what the connections passed come to.
+use Rattle.std.specs.Prelude.{Option, Some, None}
+use Rattle.std.specs.Option.{is_some}
+use Rattle.std.proofs.lemmas.Bool.{false≢true}
 use Prim.Native.Nat.{ℕ, suc, ◌+◌, ◌-◌, ◌≤◌, ◌<◌}
 use native.Mathlib.Numerals.{add-one}
 use native.Mathlib.Omega.{arith}
 use mathlib.Core.Path.{◌≡◌, refl, sym, ap, ◌∙◌}
-use mathlib.Core.Bool.{Bool, false}
+use mathlib.Core.Bool.{Bool, true, false}
 use mathlib.Core.List.{List, [], ◌∷◌, ◌++◌, append_assoc, append-nil}
 use lib.ListN.{length, take, get_or, set, replicate, length-append, length-set, length-take, replicate-append-replicate}
 use lib.Seq.{length-take-le, take_all, take-suc, take-suc-set, take-take}
 use Rattle.laws.proofs.Answers.{told}
 use Rattle.con_rec.specs.Record.{end_of}
-use Rattle.man_table.specs.Sweep.{any_end, end_here, ends_in, ends_of, no_end, no_ends, running, unless_end, with_end}
+use Rattle.man_table.specs.Sweep.{any_end, end_here, ends_in, ends_of, no_ends, running, unless_end, with_end}
 use Rattle.man_table.specs.Table.{Lived, blank, live, padded, table_of}
-use Rattle.man_table.specs.Types.{End, EndFound, Ends, SdoClientConnection, SdoClientManager}
+use Rattle.man_table.specs.Types.{End, Ends, SdoClientConnection, SdoClientManager}
 use Rattle.man_table.proofs.Tables.{Connections, copied, in_eight, live_length, push}
 
--- the first i of n connections passed, and k of eight places filled with what they come to
-pub record Filling {E : Type 0} (all : Connections → List E) (b : E) (old : Connections) (n : ℕ) (out : List E) (k i : ℕ) : Type 0 where
-  pub reached : i ≤ n
-  pub fits : n ≤ length old
-  pub most : n ≤ 8
-  pub few : k + n ≤ 8 + i
+-- the first i connections passed, and k of eight places filled with what they come to
+pub record Filling {E : Type 0} (all : Connections → List E) (b : E) (old : Connections) (out : List E) (k i : ℕ) : Type 0 where
+  pub most : length old ≤ 8
+  pub few : k + length old ≤ 8 + i
   pub count : k ≡ length (all (take i old))
   pub filled : out ≡ in_eight b (all (take i old))
 
-module _ {E : Type 0} (all : Connections → List E) (b : E) (old : Connections) (n : ℕ) (out : List E) where
-  pub fill_none : n ≤ length old → n ≤ 8 → [] ≡ all [] → out ≡ replicate 8 b → Filling all b old n out 0 0
-  fill_none f m z e =
-      record { reached = omega arith; fits = f; most = m; few = omega arith; count = rw (← z); filled = e ∙ rw (← z) }
-
-  module _ (k i : ℕ) (d : SdoClientConnection) (g : Filling all b old n out k i) (l : i < n) where
+module _ {E : Type 0} (all : Connections → List E) (b : E) (old : Connections) (out : List E) where
+  module _ (k i : ℕ) (d : SdoClientConnection) (g : Filling all b old out k i) (l : i < length old) where
     taken : take (i + 1) old ≡ take i old ++ (get_or old i d ∷ [])
-    taken = rw (add-one, take-suc old i d (omega arith))
+    taken = rw (add-one, take-suc old i d l)
 
     -- a connection that comes to one element more
     pub fill : (e : E) → all (take i old ++ (get_or old i d ∷ [])) ≡ all (take i old) ++ (e ∷ [])
-        → Filling all b old n (set out k e) (k + 1) (i + 1)
+        → Filling all b old (set out k e) (k + 1) (i + 1)
     fill e s =
         let t : all (take (i + 1) old) ≡ all (take i old) ++ (e ∷ []) = ap all taken ∙ s in
         record {
-          reached = omega arith;
-          fits = g.fits;
           most = g.most;
           few = omega arith;
           count = rw (t, length-append) (omega arith);
@@ -48,76 +43,75 @@ module _ {E : Type 0} (all : Connections → List E) (b : E) (old : Connections)
         }
 
     -- a connection that comes to nothing
-    pass : all (take i old ++ (get_or old i d ∷ [])) ≡ all (take i old) → Filling all b old n out k (i + 1)
+    pub pass : all (take i old ++ (get_or old i d ∷ [])) ≡ all (take i old) → Filling all b old out k (i + 1)
     pass s =
         let t : all (take (i + 1) old) ≡ all (take i old) = ap all taken ∙ s in
-        record {
-          reached = omega arith;
-          fits = g.fits;
-          most = g.most;
-          few = omega arith;
-          count = rw t g.count;
-          filled = rw t g.filled;
-        }
+        record { most = g.most; few = omega arith; count = rw t g.count; filled = rw t g.filled }
 
 -- ---- swept and ends_of: `one` is what a connection comes to by the end that it reports
 
-module _ {E : Type 0} (all : Connections → List E) (one : EndFound → SdoClientConnection → List E) where
+module _ {E : Type 0} (all : Connections → List E) (one : Option End → SdoClientConnection → List E) where
   module _ (none : all [] ≡ []) (more : (c : SdoClientConnection) (l : Connections) → all (c ∷ l) ≡ one (end_of c) c ++ all l) where
     each : (l : Connections) (c : SdoClientConnection) → all (l ++ (c ∷ [])) ≡ all l ++ one (end_of c) c
     each [] c = more c [] ∙ rw (none, append-nil)
     each (x ∷ l) c = more x (l ++ (c ∷ [])) ∙ rw (each l c, more x l, append_assoc)
 
   module _ (each : (l : Connections) (c : SdoClientConnection) → all (l ++ (c ∷ [])) ≡ all l ++ one (end_of c) c)
-      (b : E) (old : Connections) (n : ℕ) (out : List E) (k i j : ℕ) (d : SdoClientConnection)
-      (g : Filling all b old n out k i) (l : i < n) (q : j ≡ i + 1) (r f : EndFound) (e : r ≡ end_of (get_or old i d)) (w : r ≡ f) where
+      (b : E) (old : Connections) (out : List E) (k i : ℕ) (d : SdoClientConnection)
+      (g : Filling all b old out k i) (l : i < length old) (r f : Option End) (e : r ≡ end_of (get_or old i d)) (w : r ≡ f) where
     next : all (take i old ++ (get_or old i d ∷ [])) ≡ all (take i old) ++ one f (get_or old i d)
     next = let c = get_or old i d in each (take i old) c ∙ sym (told (λ x. all (take i old) ++ one x c) e w refl)
 
-    pub adds : (x : E) (h : ℕ) → h ≡ k + 1 → one f (get_or old i d) ≡ x ∷ [] → Filling all b old n (set out k x) h j
-    adds x h p o = rw (q, p) (fill all b old n out k i d g l x (next ∙ rw o))
+    pub adds : (x : E) → one f (get_or old i d) ≡ x ∷ [] → Filling all b old (set out k x) (k + 1) (i + 1)
+    adds x o = fill all b old out k i d g l x (next ∙ rw o)
 
-    pub skips : one f (get_or old i d) ≡ [] → Filling all b old n out k j
-    skips o = rw q (pass all b old n out k i d g l (next ∙ rw o (append-nil (all (take i old)))))
+    pub skips : one f (get_or old i d) ≡ [] → Filling all b old out k (i + 1)
+    skips o = pass all b old out k i d g l (next ∙ rw o (append-nil (all (take i old))))
 
 -- those that run on
-abbrev pub kept : EndFound → SdoClientConnection → Connections
+abbrev pub kept : Option End → SdoClientConnection → Connections
 kept e c = unless_end e c []
 
 pub each_kept : (l : Connections) (c : SdoClientConnection) → running (l ++ (c ∷ [])) ≡ running l ++ kept (end_of c) c
 each_kept = each running kept refl (λ c l. joined (end_of c) c (running l))
   where
-    joined : (e : EndFound) (c : SdoClientConnection) (l : Connections) → unless_end e c l ≡ kept e c ++ l
-    joined EndFound.Running c l = refl
-    joined (EndFound.End e) c l = refl
+    joined : (e : Option End) (c : SdoClientConnection) (l : Connections) → unless_end e c l ≡ kept e c ++ l
+    joined None c l = refl
+    joined (Some e) c l = refl
 
-pub swept_all : (m : SdoClientManager) (n k i : ℕ) (out : Connections) → Lived m n
-    → Filling running blank m.connections n out k i → n ≤ i
-    → ◌≡◌ {A = SdoClientManager} (record { connections = out; count = k; next_transaction_id = m.next_transaction_id })
-    (table_of (running (live m)) m.next_transaction_id)
-swept_all m n k i out v g l = let e : i ≡ n = omega arith in rw (← v.front, ← e, g.filled, g.count)
+-- one that ended comes to nothing, one that runs on to itself
+module _ (e : Option End) (s : Bool) (c : SdoClientConnection) (told : s ≡ is_some e) where
+  pub gone : s ≡ true → kept e c ≡ []
+  gone h = go e (sym told ∙ h)
+    where
+      go : (e : Option End) → is_some e ≡ true → kept e c ≡ []
+      go None h = absurd (false≢true h)
+      go (Some e) h = refl
+
+  pub stays : s ≡ false → kept e c ≡ c ∷ []
+  stays h = go e (sym told ∙ h)
+    where
+      go : (e : Option End) → is_some e ≡ false → kept e c ≡ c ∷ []
+      go None h = refl
+      go (Some e) h = absurd (false≢true (sym h))
 
 -- the ends of those that ended
-abbrev pub reported : EndFound → SdoClientConnection → List End
+abbrev pub reported : Option End → SdoClientConnection → List End
 reported e c = with_end e []
 
 pub each_reported : (l : Connections) (c : SdoClientConnection) → ends_in (l ++ (c ∷ [])) ≡ ends_in l ++ reported (end_of c) c
 each_reported = each ends_in reported refl (λ c l. joined (end_of c) c (ends_in l))
   where
-    joined : (e : EndFound) (c : SdoClientConnection) (l : List End) → with_end e l ≡ reported e c ++ l
-    joined EndFound.Running c l = refl
-    joined (EndFound.End e) c l = refl
-
-pub ends_all : (m : SdoClientManager) (n k i : ℕ) (out : List End) → Lived m n → Filling ends_in no_end m.connections n out k i → n ≤ i
-    → ◌≡◌ {A = Ends} (record { list = out; count = k }) (ends_of (ends_in (live m)))
-ends_all m n k i out v g l = let e : i ≡ n = omega arith in rw (← v.front, ← e, g.filled, g.count)
+    joined : (e : Option End) (c : SdoClientConnection) (l : List End) → with_end e l ≡ reported e c ++ l
+    joined None c l = refl
+    joined (Some e) c l = refl
 
 -- ---- nothing ended: all run on, and there is no end
 
-module _ (A : Type 0) (one : EndFound → A → A) (x : A) (l : Connections) where
-  none_here : (y : A) (e : EndFound) → end_here e (any_end l) ≡ false → (any_end l ≡ false → one EndFound.Running x ≡ y) → one e x ≡ y
-  none_here y EndFound.Running h so = so h
-  none_here y (EndFound.End e) h so = let z : ◌≡◌ {A = ℕ} 0 1 = cc h in absurd (omega arith)
+module _ (A : Type 0) (one : Option End → A → A) (x : A) (l : Connections) where
+  none_here : (y : A) (e : Option End) → end_here e (any_end l) ≡ false → (any_end l ≡ false → one None x ≡ y) → one e x ≡ y
+  none_here y None h so = so h
+  none_here y (Some e) h so = let z : ◌≡◌ {A = ℕ} 0 1 = cc h in absurd (omega arith)
 
 pub none_swept : (l : Connections) → any_end l ≡ false → running l ≡ l
 none_swept [] h = refl

@@ -1,6 +1,6 @@
 pub mod FillLoops
 pub mod Places
 pub mod RestingTurns
-pub mod ScanLoops
+pub mod Searches
 pub mod Tables
 pub mod WalkLoop

@@ -1,5 +1,9 @@
 -- The table as a list: how many are held, and eight places that are filled from the front.
-use Prim.Native.Nat.{ℕ, zero, suc, ◌+◌, ◌-◌, ◌≤◌, ◌<◌}
+use Rattle.std.specs.Prelude.{Option, Some, None}
+use Prim.Native.Nat.{ℕ, zero, suc, min, ◌+◌, ◌-◌, ◌≤◌, ◌<◌}
+use mathlib.Core.Bool.{Bool, true, false}
+use lib.Dec.{leb}
+use borrow.Author.Tests.{leb-true, leb-false}
 use native.Mathlib.Nat.{le_of_suc-le-suc}
 use native.Mathlib.Omega.{arith}
 use mathlib.Core.Path.{◌≡◌, refl, sym, ap, ◌∙◌}
@@ -23,7 +27,7 @@ use Rattle.con_rec.specs.Record.{new_connection}
 use Rattle.man_table.proofs.Places.{found_held}
 use Rattle.man_table.specs.Table.{target_at, target_of, connection_at}
 use Rattle.man_table.specs.Table.{Lived, blank, find_in, free_room, live, padded, table_of}
-use Rattle.man_table.specs.Types.{Found, SdoClientConnection, SdoClientManager, Entry}
+use Rattle.man_table.specs.Types.{SdoClientConnection, SdoClientManager, Entry}
 
 abbrev pub Connections : Type 0
 Connections = List SdoClientConnection
@@ -77,20 +81,26 @@ module _ {A : Type 0} (b : A) (l : List A) (c : A) (k : ℕ) where
 
 -- how many are held: the count, and eight where the count says more
 module _ (m : SdoClientManager) (e : length m.connections ≡ 8) where
-  pub lived_count : m.count < 8 → Lived m m.count
-  lived_count h = record { most = omega arith; front = refl; back = refl; all = e }
-
-  pub lived_all : 8 ≤ m.count → Lived m 8
-  lived_all h =
-      let l = m.connections in
-      let a : length l ≤ 8 = omega arith in
-      let b : length l ≤ m.count = omega arith in
-      record {
-        most = omega arith;
-        front = take_all 8 l a ∙ sym (take_all _ l b);
-        back = drop_of_length-le l a ∙ sym (drop_of_length-le l b);
-        all = e;
-      }
+  pub lived_least : Lived m (min m.count 8)
+  lived_least = go (leb m.count 8) refl
+    where
+      go : (b : Bool) → leb m.count 8 ≡ b → Lived m (min m.count 8)
+      go true f =
+          let h = leb-true m.count 8 f in
+          let k : min m.count 8 ≡ m.count = omega arith in
+          rw k (record { most = h; front = refl; back = refl; all = e })
+      go false f =
+          let h = leb-false m.count 8 f in
+          let k : min m.count 8 ≡ 8 = omega arith in
+          let l = m.connections in
+          let a : length l ≤ 8 = omega arith in
+          let b : length l ≤ m.count = omega arith in
+          rw k (record {
+            most = omega arith;
+            front = take_all 8 l a ∙ sym (take_all _ l b);
+            back = drop_of_length-le l a ∙ sym (drop_of_length-le l b);
+            all = e;
+          })
 
 module _ (m : SdoClientManager) (n : ℕ) (v : Lived m n) where
   pub live_length : length (live m) ≡ n
@@ -131,18 +141,18 @@ module _ (m : SdoClientManager) (n : ℕ) (v : Lived m n) where
         rw (set_out (live m) place c (omega arith), copied out e, k)
 
 -- whose job a start is
-module _ (m : SdoClientManager) (node : ℕ) (f : Found) (e : f ≡ find_in node (live m)) where
-  pub target_held : (k : ℕ) (c : SdoClientConnection) → f ≡ Found.At k → c ≡ connection_at m k → Entry.At k c ≡ target_of m node
+module _ (m : SdoClientManager) (node : ℕ) (f : Option ℕ) (e : f ≡ find_in node (live m)) where
+  pub target_held : (k : ℕ) (c : SdoClientConnection) → f ≡ Some k → c ≡ connection_at m k → Entry.At k c ≡ target_of m node
   unfolding target_of
   target_held k c g h = told (λ x. target_at x m node) e g (ap (Entry.At k) (h ∙ found_held m k f node e g))
 
-  pub target_full : (n : ℕ) → f ≡ Found.Absent → Lived m n → n ≡ 8 → Entry.Nowhere ≡ target_of m node
+  pub target_full : (n : ℕ) → f ≡ None → Lived m n → n ≡ 8 → Entry.Nowhere ≡ target_of m node
   unfolding target_of
   target_full n g v h =
       let k : 8 ≤ length (live m) = omega (arith, live_length m n v) in
       told (λ x. target_at x m node) e g (within _ _ 8 (length (live m)) k refl)
 
-  pub target_new : (n room : ℕ) (c : SdoClientConnection) → f ≡ Found.Absent → Lived m n → (n ≡ 8 → ⊥)
+  pub target_new : (n room : ℕ) (c : SdoClientConnection) → f ≡ None → Lived m n → (n ≡ 8 → ⊥)
       → room ≡ free_room (live m) → c ≡ new_connection node room → Entry.New c ≡ target_of m node
   unfolding target_of
   target_new n room c g v h r d =

@@ -1,4 +1,5 @@
 -- The walk of tick and ask: the loop's invariant, that a turn keeps it, and what each way out comes to.
+use Rattle.std.specs.Prelude.{Some, None, Result, Ok, Err}
 use Prim.Native.Nat.{ℕ, suc, ◌+◌, ◌≤◌, ◌<◌}
 use native.Mathlib.Nat.{lt_of_lt_of_le, le_of_lt}
 use native.Mathlib.Numerals.{add-one}
@@ -10,7 +11,7 @@ use lib.ListN.{length, take, drop, get_or, set, length-set, take-append-drop}
 use lib.Seq.{slice, slice-cons, slice_empty, take-suc-set, drop-set-lt, take-set-lt, set-get_or, set_split, take-take, length-take-le}
 use Rattle.man_table.specs.Resting.{rests_of}
 use Rattle.man_table.specs.Table.{Lived}
-use Rattle.man_table.specs.Types.{Now, Outgoing, Refusal, SdoClientConnection, SdoClientManager, Sends, Step, Stepped, Turn, Walk, Walked}
+use Rattle.man_table.specs.Types.{Now, Outgoing, Refusal, SdoClientConnection, SdoClientManager, Step, Turn, Walk, Walked}
 use Rattle.man_table.proofs.RestingTurns.{rests_quiet}
 use Rattle.man_table.specs.Walk.{Walking, refused, through, stopped, passed, at_turn, walk_step, walk_list, walk_of}
 
@@ -48,7 +49,7 @@ pub going_none : (t : Turn) (now : Now) (old : List SdoClientConnection) (n : �
 going_none t now old n h = record { within = omega arith; fits = h; tail = refl; so = refl }
 
 module _ (t : Turn) (now : Now) (old : List SdoClientConnection) (n : ℕ) (cs : List SdoClientConnection) (i : ℕ) (b : SdoClientConnection)
-    (g : Going t now old n cs i) (l : i < n) (a : Stepped) (e : a ≡ at_turn t (get_or cs i b) now) where
+    (g : Going t now old n cs i) (l : i < n) (a : Result Step Refusal) (e : a ≡ at_turn t (get_or cs i b) now) where
   -- what the walk of the whole comes to, by what the next connection does
   next : walk_list t now (take n old)
       ≡ after (take i cs) (walk_step a (slice (suc i) n cs) (walk_list t now (slice (suc i) n cs)))
@@ -57,11 +58,11 @@ module _ (t : Turn) (now : Now) (old : List SdoClientConnection) (n : ℕ) (cs :
   rest_set : (d : SdoClientConnection) → slice (suc i) n (set cs i d) ≡ slice (suc i) n cs
   rest_set d = ap (drop (suc i)) (take-set-lt n cs i d l) ∙ drop-set-lt (suc i) (take n cs) i d (omega arith)
 
-  going_refused : (r : Refusal) → a ≡ Stepped.Refused r → walk_list t now (take n old) ≡ refused r
+  going_refused : (r : Refusal) → a ≡ Err r → walk_list t now (take n old) ≡ refused r
   going_refused r w = next ∙ rw w (after_refused (take i cs) r)
 
-  module _ (s : Step) (w : a ≡ Stepped.Went s) where
-    pub going_more : s.sends ≡ Sends.Silent → Going t now old n (set cs i s.connection) (i + 1)
+  module _ (s : Step) (w : a ≡ Ok s) where
+    pub going_more : s.sends ≡ None → Going t now old n (set cs i s.connection) (i + 1)
     going_more f =
         record {
           within = omega arith;
@@ -79,7 +80,7 @@ module _ (t : Turn) (now : Now) (old : List SdoClientConnection) (n : ℕ) (cs :
               );
         }
 
-    going_stopped : (o : Outgoing) → s.sends ≡ Sends.Gives o
+    going_stopped : (o : Outgoing) → s.sends ≡ Some o
         → walk_list t now (take n old) ≡ stopped i o (take n (set cs i s.connection))
     going_stopped o f =
         let h : i ≤ length cs = le_of_lt (lt_of_lt_of_le l g.fits) in
@@ -100,7 +101,7 @@ pub going_rest : (t : Turn) (now : Now) (old : List SdoClientConnection) (n : �
 going_rest t now old n cs i b r g l p q =
     rw (set-get_or cs i b) at
     (going_more t now old n cs i b g l (at_turn t (get_or cs i b) now) refl
-    (record { connection = get_or cs i b; sends = Sends.Silent }) (rests_quiet t (get_or cs i b) now (sym p ∙ q)) refl)
+    (record { connection = get_or cs i b; sends = None }) (rests_quiet t (get_or cs i b) now (sym p ∙ q)) refl)
 
 going_through : (t : Turn) (now : Now) (old : List SdoClientConnection) (n : ℕ) (cs : List SdoClientConnection)
     → Going t now old n cs n → walk_list t now (take n old) ≡ through (take n cs)
@@ -133,13 +134,13 @@ module _ (m : SdoClientManager) (t : Turn) (now : Now) (n : ℕ) (v : Lived m n)
         ← k.number,
       )
 
-  module _ (b : SdoClientConnection) (l : i < n) (x : Stepped) (e : x ≡ at_turn t (get_or a.connections i b) now) where
-    pub refuses : (r : Refusal) → x ≡ Stepped.Refused r
+  module _ (b : SdoClientConnection) (l : i < n) (x : Result Step Refusal) (e : x ≡ at_turn t (get_or a.connections i b) now) where
+    pub refuses : (r : Refusal) → x ≡ Err r
         → ◌≡◌ {A = Walk} (record { manager = m; walked = Walked.Refused r }) (walk_of m t now)
     unfolding walk_of
     refuses r w = rw (← v.front, going_refused t now m.connections n a.connections i b g l x e r w)
 
-    pub stops : (s : Step) (o : Outgoing) → x ≡ Stepped.Went s → s.sends ≡ Sends.Gives o
+    pub stops : (s : Step) (o : Outgoing) → x ≡ Ok s → s.sends ≡ Some o
         → ◌≡◌ {A = Walk} (record { manager = with_all a (set a.connections i s.connection); walked = Walked.Stopped i o })
         (walk_of m t now)
     unfolding walk_of

@@ -1,10 +1,10 @@
 -- The table (document 01, "Which shape goes where"): eight connections in an array inside the manager's value, beside count and transaction
 -- counter. The held ones are the first `count`, ascending by node; the rest are blank. Every definition speaks of the list of those held.
-use Rattle.std.specs.Prelude.{ℕ, zero, suc, ◌-◌, ◌*◌, ◌≤◌, min, ◌≡◌, Bool, true, false, List, [], ◌∷◌, ◌++◌, ltb, leb, eqb, length, take, drop, get_or, replicate}
+use Rattle.std.specs.Prelude.{ℕ, zero, suc, ◌-◌, ◌*◌, ◌≤◌, min, ◌≡◌, Bool, true, false, List, [], ◌∷◌, ◌++◌, ltb, leb, eqb, length, take, drop, get_or, replicate, Option, Some, None}
 use Rattle.laws.specs.Pick.{pick}
 use Rattle.codec.specs.Bytes.{Bytes}
 use Rattle.con_rec.specs.Record.{new_connection}
-use Rattle.man_table.specs.Types.{Found, SdoClientConnection, SdoClientManager, Entry}
+use Rattle.man_table.specs.Types.{SdoClientConnection, SdoClientManager, Entry}
 
 -- what stands in every place past the held ones
 abbrev pub blank : SdoClientConnection
@@ -32,13 +32,13 @@ pub record Lived (m : SdoClientManager) (n : ℕ) : Type 0 where
   pub all : length m.connections ≡ 8
 
 -- the place of a node's connection
-abbrev pub one_further : Found → Found
-one_further Found.Absent = Found.Absent
-one_further (Found.At k) = Found.At (suc k)
+abbrev pub one_further : Option ℕ → Option ℕ
+one_further None = None
+one_further (Some k) = Some (suc k)
 
-abbrev pub find_in : ℕ → List SdoClientConnection → Found
-find_in node [] = Found.Absent
-find_in node (c ∷ l) = pick (eqb c.target_node_id node) (Found.At 0) (one_further (find_in node l))
+abbrev pub find_in : ℕ → List SdoClientConnection → Option ℕ
+find_in node [] = None
+find_in node (c ∷ l) = pick (eqb c.target_node_id node) (Some 0) (one_further (find_in node l))
 
 -- how many stand before the first whose node is larger
 abbrev pub place_in : ℕ → List SdoClientConnection → ℕ
@@ -89,9 +89,9 @@ abbrev pub held_at : SdoClientManager → ℕ → SdoClientConnection
 held_at m k = get_or (live m) k blank
 
 -- whose job it is: a connection held, at its place; a new one, with a free room; or nobody's, where eight are held
-abbrev pub target_at : Found → SdoClientManager → ℕ → Entry
-target_at (Found.At k) m node = Entry.At k (held_at m k)
-target_at Found.Absent m node =
+abbrev pub target_at : Option ℕ → SdoClientManager → ℕ → Entry
+target_at (Some k) m node = Entry.At k (held_at m k)
+target_at None m node =
     pick (leb 8 (length (live m))) Entry.Nowhere (Entry.New (new_connection node (free_room (live m))))
 
 unfoldable pub target_of : SdoClientManager → ℕ → Entry

@@ -1,6 +1,10 @@
 -- Tick and ask walk nodes in ascending order and stop calling connections at the first that gives a command. If a deadline on that walk
 -- doesn't fit, the whole call is refused (document 01, "The manager").
-use Rattle.std.specs.Prelude.{ℕ, suc, List, [], ◌∷◌, ◌++◌, drop}
+use Rattle.std.specs.Prelude.{ℕ, suc, List, [], ◌∷◌, ◌++◌, drop, Option, Some, None, Result, Ok, Err}
+use Rattle.codec.specs.declared.refusal.Refusal.{Refusal}
+use Rattle.con_rec.specs.declared.SdoClientConnection.{SdoClientConnection}
+use Rattle.con_rec.specs.declared.Outgoing.{Outgoing}
+use Rattle.con_rec.specs.declared.Step.{Step}
 use Rattle.connection.specs.Ask.{ask_of}
 use Rattle.connection.specs.Tick.{tick_of}
 use Rattle.man_table.specs.Table.{live}
@@ -10,15 +14,13 @@ use Rattle.man_table.specs.Types.{
   Refusal,
   SdoClientConnection,
   SdoClientManager,
-  Sends,
-  Stepped,
   Turn,
   Walk,
   Walked,
 }
 
 -- what a connection does at its turn
-abbrev pub at_turn : Turn → SdoClientConnection → Now → Stepped
+abbrev pub at_turn : Turn → SdoClientConnection → Now → Result Step Refusal
 at_turn Turn.Asking c n = ask_of c n
 at_turn Turn.Ticking c n = tick_of c n
 
@@ -34,13 +36,13 @@ passed d (refused r) = refused r
 passed d (through l) = through (d ∷ l)
 passed d (stopped k o l) = stopped (suc k) o (d ∷ l)
 
-abbrev pub stop_or : Sends → SdoClientConnection → List SdoClientConnection → Walking → Walking
-stop_or (Sends.Gives o) d rest on = stopped 0 o (d ∷ rest)
-stop_or Sends.Silent d rest on = passed d on
+abbrev pub stop_or : Option Outgoing → SdoClientConnection → List SdoClientConnection → Walking → Walking
+stop_or (Some o) d rest on = stopped 0 o (d ∷ rest)
+stop_or None d rest on = passed d on
 
-abbrev pub walk_step : Stepped → List SdoClientConnection → Walking → Walking
-walk_step (Stepped.Refused r) rest on = refused r
-walk_step (Stepped.Went s) rest on = stop_or s.sends s.connection rest on
+abbrev pub walk_step : Result Step Refusal → List SdoClientConnection → Walking → Walking
+walk_step (Err r) rest on = refused r
+walk_step (Ok s) rest on = stop_or s.sends s.connection rest on
 
 abbrev pub walk_list : Turn → Now → List SdoClientConnection → Walking
 walk_list t n [] = through []

@@ -28,13 +28,6 @@ pub struct Ends {
     pub count: usize,
 }
 
-// Where a node's connection is in the table.
-#[derive(Clone, Copy)]
-pub enum Found {
-    At(usize),
-    Absent,
-}
-
 // A connection and where it stands in the table: at a place of those held, or in a new place by its node; or none.
 #[derive(Clone, Copy)]
 pub enum Entry {

@@ -5,15 +5,14 @@ ghost use Rattle.man_table.specs.Table.{live};
 ghost use Rattle.man_table.specs.Walk.{at_turn, walk_of};
 
 use crate::held::lived;
-use crate::types::{Found, SdoClientManager, Turn, Walk, Walked};
-use con_rec::{
-    Deadline, Now, Outstanding, SdoClientConnection, SdoClientConnectionState, Sends, Stepped,
-};
+use crate::types::{SdoClientManager, Turn, Walk, Walked};
+use codec::refusal::Refusal;
+use con_rec::{Now, SdoClientConnection, SdoClientConnectionState, Step};
 use connection::ask::get_pending_request;
 use connection::tick::tick;
 
 // What a connection does at its turn.
-pub fn at_turn(t: Turn, c: SdoClientConnection, n: Now) -> Stepped
+pub fn at_turn(t: Turn, c: SdoClientConnection, n: Now) -> Result<Step, Refusal>
     ensures { result ≡ at_turn t c n }
 {
     match t {
@@ -24,40 +23,32 @@ pub fn at_turn(t: Turn, c: SdoClientConnection, n: Now) -> Stepped
 
 // Whether an ask leaves a connection as it is and gives nothing, as its record shows at a glance: it waits for a reply, or is in a state that
 // asks nothing.
+#[tactic(auto, using(crate::proofs::RestingTurns::asks_never, crate::proofs::RestingTurns::asks_by))]
 fn nothing_to_ask(c: SdoClientConnection) -> bool
     ensures { result ≡ nothing_to_ask c }
 {
-    let waiting = c.waiting;
-    let outstanding = waiting.last_sent_command;
-    let state = c.state;
-    if let Outstanding::Waits(_) = outstanding {
+    if c.waiting.last_sent_command.is_some() {
         return true;
     }
-    match state {
-        SdoClientConnectionState::Idle => return true,
-        SdoClientConnectionState::Opening => return false,
-        SdoClientConnectionState::Established => return false,
-        SdoClientConnectionState::UploadInit => return true,
-        SdoClientConnectionState::UploadInProgress => return false,
-        SdoClientConnectionState::DownloadInProgress => return false,
-        SdoClientConnectionState::Closed => return true,
+    match c.state {
+        SdoClientConnectionState::Idle => true,
+        SdoClientConnectionState::Opening => false,
+        SdoClientConnectionState::Established => false,
+        SdoClientConnectionState::UploadInit => true,
+        SdoClientConnectionState::UploadInProgress => false,
+        SdoClientConnectionState::DownloadInProgress => false,
+        SdoClientConnectionState::Closed => true,
     }
 }
 
 // The same of a tick: there is no deadline, or it has not come.
+#[tactic(auto, unfolding(crate::specs::Resting::nothing_due))]
 fn nothing_due(c: SdoClientConnection, n: Now) -> bool
     ensures { result ≡ nothing_due c n }
 {
-    let waiting = c.waiting;
-    let deadline = waiting.deadline;
-    match deadline {
-        Deadline::Never => return true,
-        Deadline::At(d) => {
-            if n.time < d {
-                return true;
-            }
-            return false;
-        }
+    match c.waiting.deadline {
+        None => true,
+        Some(d) => n.time < d,
     }
 }
 
@@ -72,24 +63,10 @@ fn rests(t: Turn, c: SdoClientConnection, n: Now) -> bool
 }
 
 // The place of the first that does not rest.
-pub fn due(m: SdoClientManager, t: Turn, when: Now) -> Found
+pub fn due(m: SdoClientManager, t: Turn, when: Now) -> Option<usize>
     ensures { result ≡ due_in t «when» (live m) }
 {
-    let old = m.connections;
-    let n = lived(m);
-    let mut i: usize = 0;
-    while i < 8 {
-        if n <= i {
-            return Found::Absent;
-        }
-        let c = old[i];
-        if rests(t, c, when) {
-            i += 1;
-            continue;
-        }
-        return Found::At(i);
-    }
-    Found::Absent
+    m.held().iter().position(|c| !rests(t, *c, when))
 }
 
 // The manager after the walk, and where it was left. A refusal on the way leaves the manager as it was.
@@ -98,33 +75,30 @@ pub fn walk(m: SdoClientManager, t: Turn, n: Now) -> Walk
 {
     let mut after = m;
     let held = lived(m);
-    let mut i: usize = 0;
-    let walked = loop {
-        if held <= i {
-            break Walked::Through;
-        }
+    for i in 0..held {
         if rests(t, after.connections[i], n) {
-            i += 1;
             continue;
         }
-        let c = after.connections[i];
-        let step = match at_turn(t, c, n) {
-            Stepped::Went(s) => s,
-            Stepped::Refused(r) => {
-                after = m;
-                break Walked::Refused(r);
+        match at_turn(t, after.connections[i], n) {
+            Ok(s) => {
+                after.connections[i] = s.connection;
+                if let Some(o) = s.sends {
+                    return Walk {
+                        manager: after,
+                        walked: Walked::Stopped(i, o),
+                    };
+                }
             }
-        };
-        let d = step.connection;
-        let sends = step.sends;
-        after.connections[i] = d;
-        if let Sends::Gives(o) = sends {
-            break Walked::Stopped(i, o);
+            Err(r) => {
+                return Walk {
+                    manager: m,
+                    walked: Walked::Refused(r),
+                };
+            }
         }
-        i += 1;
-    };
+    }
     Walk {
         manager: after,
-        walked,
+        walked: Walked::Through,
     }
 }

@@ -7,9 +7,10 @@ ghost use Rattle.man_table.specs.Table.{room_start};
 ghost use Rattle.man_value.specs.Value.{uploaded_part, is_complete, object_of, value_in};
 
 use codec::octets::part;
-use con_rec::{PendingRead, Reason, SdoClientConnection};
+use codec::request::ReadByIndexRequest;
+use con_rec::{Reason, SdoClientConnection};
 use man_table::held::{connection_at, find};
-use man_table::types::{Found, LAST_ROOM, SdoClientManager};
+use man_table::types::{LAST_ROOM, SdoClientManager};
 
 // A part of the store: where it starts and how many bytes it has.
 #[derive(Clone, Copy)]
@@ -20,23 +21,19 @@ pub struct StorePart {
 
 // Where a connection's room starts, within the store whatever the record says.
 pub fn room_start(c: SdoClientConnection) -> usize
-    ensures { (result ≡ room_start c) × (result ≤ 28672) }
+    ensures value { result ≡ room_start c }
+    ensures within { result ≤ 28672 }
 {
-    if c.room < LAST_ROOM {
-        c.room
-    } else {
-        LAST_ROOM
-    }
+    c.room.min(LAST_ROOM)
 }
 
 // What an upload has brought lies at the start of its room.
 pub fn uploaded_part(c: SdoClientConnection) -> StorePart
     ensures { result ≡ uploaded_part c }
 {
-    let job = c.job;
     StorePart {
         start: room_start(c),
-        length: job.uploaded,
+        length: c.job.uploaded,
     }
 }
 
@@ -44,34 +41,16 @@ pub fn uploaded_part(c: SdoClientConnection) -> StorePart
 pub fn is_complete(why: Reason) -> bool
     ensures { result ≡ is_complete why }
 {
-    match why {
-        Reason::Complete => true,
-        Reason::Cut => false,
-        Reason::OpenRefused => false,
-        Reason::Sequence => false,
-        Reason::PeerAborted(_) => false,
-        Reason::Timeout => false,
-        Reason::BadSegment => false,
-    }
-}
-
-// What the connection's job reads.
-fn pending_of(c: SdoClientConnection) -> PendingRead
-    ensures { result ≡ c.job.pending_read }
-{
-    let job = c.job;
-    job.pending_read
+    matches!(why, Reason::Complete)
 }
 
 // The object that a node's job reads, for whoever has not kept it. Call it before the reply that ends the job, since that reply removes the connection.
-// NoRead for a node that is not held, and for one whose job reads nothing.
-pub fn object_of(m: SdoClientManager, node: u8) -> PendingRead
+// None for a node that is not held, and for one whose job reads nothing.
+pub fn object_of(m: SdoClientManager, node: u8) -> Option<ReadByIndexRequest>
     ensures { result ≡ object_of m node }
 {
-    match find(m, node) {
-        Found::At(k) => return pending_of(connection_at(m, k)),
-        Found::Absent => return PendingRead::NoRead,
-    }
+    let k = find(m, node)?;
+    connection_at(m, k).job.pending_read
 }
 
 // Hands out the part of the store that a reply answered. Call it before the next start, reply, tick or ask: they may use its bytes again. It refuses

@@ -1,46 +1,35 @@
--- The least deadline, found from the last connection to the first.
-use Prim.Native.Nat.{ℕ, suc, ◌-◌, ◌≤◌, ◌<◌, min}
-use native.Mathlib.Omega.{arith}
-use mathlib.Core.Path.{◌≡◌, ap, ◌∙◌}
-use mathlib.Core.List.{◌∷◌}
-use lib.ListN.{length, get_or}
-use lib.Seq.{slice, slice-cons, slice_empty}
+-- The least deadline: the least of those that there are.
+use Rattle.std.proofs.Common.{◌≡◌, ℕ, List, [], ◌∷◌, Option, Some, None, refl, ap, ◌∙◌, arith}
+use Prim.Native.Nat.{min}
+use Rattle.std.specs.Option.{option_map}
+use Rattle.std.specs.List.{filter_map, cons_option, fold, reduce}
 use Rattle.manager.specs.Calls.{least_deadline, sooner}
-use Rattle.man_table.specs.Table.{Lived, live}
-use Rattle.manager.specs.Types.{Deadline, SdoClientConnection, SdoClientManager}
-use Rattle.man_table.proofs.Tables.{Connections}
+use Rattle.manager.specs.Types.{SdoClientConnection}
 
--- the sooner of two
-module _ (a b : Deadline) (x : ℕ) (e : a ≡ Deadline.At x) where
-  pub sooner_alone : b ≡ Deadline.Never → Deadline.At x ≡ sooner a b
-  sooner_alone f = rw (e, f)
+abbrev pub deadlines : List SdoClientConnection → List ℕ
+deadlines = filter_map (λ (c : SdoClientConnection). c.waiting.deadline)
 
-  pub sooner_first : (y : ℕ) → b ≡ Deadline.At y → x < y → Deadline.At x ≡ sooner a b
-  sooner_first y f h = let k : min x y ≡ x = omega arith in rw (e, f, k)
+sooner_of_three : (x y : ℕ) (d : Option ℕ) → sooner (Some (min x y)) d ≡ sooner (Some x) (sooner (Some y) d)
+sooner_of_three x y None = refl
+sooner_of_three x y (Some z) = let e : min (min x y) z ≡ min x (min y z) = omega arith in ap Some e
 
-  pub sooner_second : (y : ℕ) → b ≡ Deadline.At y → y ≤ x → Deadline.At y ≡ sooner a b
-  sooner_second y f h = let k : min x y ≡ y = omega arith in rw (e, f, k)
+least_from : (x : ℕ) (l : List SdoClientConnection) → Some (fold min x (deadlines l)) ≡ sooner (Some x) (least_deadline l)
+least_from x [] = refl
+least_from x (c ∷ l) = go c.waiting.deadline (λ y. least_from y l)
+  where
+    go : (d : Option ℕ) → ((y : ℕ) → Some (fold min y (deadlines l)) ≡ sooner (Some y) (least_deadline l))
+        → Some (fold min x (cons_option d (deadlines l))) ≡ sooner (Some x) (sooner d (least_deadline l))
+    go None h = h x
+    go (Some y) h = h (min x y) ∙ sooner_of_three x y (least_deadline l)
 
--- the least deadline of the connections from the i-th to the n-th
-pub record Lessening (old : Connections) (n i : ℕ) (least : Deadline) : Type 0 where
-  pub reached : i ≤ n
-  pub fits : n ≤ length old
-  pub most : n ≤ 8
-  pub so : least ≡ least_deadline (slice i n old)
+pub least_of : (l : List SdoClientConnection) → reduce min (deadlines l) ≡ least_deadline l
+least_of [] = refl
+least_of (c ∷ l) = go c.waiting.deadline (least_of l)
+  where
+    go : (d : Option ℕ) → reduce min (deadlines l) ≡ least_deadline l → reduce min (cons_option d (deadlines l)) ≡ sooner d (least_deadline l)
+    go None h = h
+    go (Some x) h = least_from x l
 
-pub lessening_none : (m : SdoClientManager) (n : ℕ) → Lived m n → Lessening m.connections n n Deadline.Never
-lessening_none m n v = record { reached = omega arith; fits = omega arith; most = v.most; so = rw slice_empty }
-
-pub lessening_more : (old : Connections) (n i : ℕ) (least r : Deadline) (b : SdoClientConnection) → Lessening old n i least → 0 < i
-    → r ≡ sooner (get_or old (i - 1) b).waiting.deadline least → Lessening old n (i - 1) r
-lessening_more old n i least r b g l e =
-    let c = get_or old (i - 1) b in
-    let f : suc (i - 1) ≡ i = omega arith in
-    let h : i - 1 < n = omega arith in
-    let t : slice (i - 1) n old ≡ c ∷ slice i n old =
-    slice-cons (i - 1) n old b h g.fits ∙ ap (λ (k : ℕ). c ∷ slice k n old) f in
-    record { reached = omega arith; fits = g.fits; most = g.most; so = e ∙ rw (t, g.so) }
-
-pub lessening_done : (m : SdoClientManager) (n i : ℕ) (least : Deadline) → Lived m n → Lessening m.connections n i least → i ≤ 0
-    → least ≡ least_deadline (live m)
-lessening_done m n i least v g l = let e : i ≡ 0 = omega arith in rw (g.so, e, v.front)
+pub unchanged : (d : Option ℕ) → d ≡ option_map (λ (x : ℕ). x) d
+unchanged None = refl
+unchanged (Some x) = refl

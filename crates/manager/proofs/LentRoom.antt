@@ -1,4 +1,6 @@
 -- A room lent to a connection's call and put back is the store with that room's bytes; where the call is refused it is the store as it was.
+use Rattle.std.specs.Prelude.{Result, Ok, Err}
+use Rattle.codec.specs.declared.refusal.Refusal.{Refusal}
 use Prim.Native.Nat.{ℕ, ◌+◌, ◌-◌, ◌≤◌}
 use native.Mathlib.Nat.{add-sub_cancel_left}
 use native.Mathlib.Omega.{arith}
@@ -11,7 +13,7 @@ use Rattle.connection.specs.Start.{room_with}
 use Rattle.con_reply.specs.Reply.{replied, room_after}
 use Rattle.manager.specs.Calls.{loads, replied_store, started_store, with_room, writes}
 use Rattle.man_table.specs.Table.{room_in, room_size, room_start, store_size}
-use Rattle.manager.specs.Types.{Taken, Decision, Mode, SdoClientConnection}
+use Rattle.manager.specs.Types.{Decision, Mode, SdoClientConnection}
 
 -- the part that is lent, from its start to 4,096 bytes further
 pub lent_room : (store : Bytes) (c : SdoClientConnection) (a : ℕ) → a ≡ room_start c → take (a + 4096 - a) (drop a store) ≡ room_in store c
@@ -41,14 +43,14 @@ module _ (store : Bytes) (long : length store ≡ store_size) (c : SdoClientConn
       ∙ ap (λ (l : Bytes). take (room_start c) store ++ l) (take-append-drop room_size (drop (room_start c) store))
       ∙ take-append-drop (room_start c) store
 
-  pub write_stored : (mode : Mode) (index sub : ℕ) (bytes : Bytes) (a : Taken)
+  pub write_stored : (mode : Mode) (index sub : ℕ) (bytes : Bytes) (a : Result SdoClientConnection Refusal)
       → with_room store c (room_with a bytes (room_in store c)) ≡ started_store a (writes mode index sub bytes) c store
-  write_stored mode index sub bytes (Taken.Connection d) = refl
-  write_stored mode index sub bytes (Taken.Refused r) = put_back
+  write_stored mode index sub bytes (Ok d) = refl
+  write_stored mode index sub bytes (Err r) = put_back
 
-  pub dcf_stored : (mode : Mode) (dcf : Bytes) (a : Taken) → with_room store c (room_with a dcf (room_in store c)) ≡ started_store a (loads mode dcf) c store
-  dcf_stored mode dcf (Taken.Connection d) = refl
-  dcf_stored mode dcf (Taken.Refused r) = put_back
+  pub dcf_stored : (mode : Mode) (dcf : Bytes) (a : Result SdoClientConnection Refusal) → with_room store c (room_with a dcf (room_in store c)) ≡ started_store a (loads mode dcf) c store
+  dcf_stored mode dcf (Ok d) = refl
+  dcf_stored mode dcf (Err r) = put_back
 
   pub reply_stored : (payload : Bytes) (x : Decision)
       → with_room store c (room_after x payload (room_in store c))

@@ -1,5 +1,10 @@
 -- A plan, carried out, is the call: of a start and a reply by definition, of a tick or an ask because the connections that rest are left as they are
 -- and give nothing, so that the walk goes by the first that does not.
+use Rattle.std.specs.Prelude.{Option, Some, None, Result, Ok, Err}
+use Rattle.codec.specs.declared.refusal.Refusal.{Refusal}
+use Rattle.con_rec.specs.declared.SdoClientConnection.{SdoClientConnection}
+use Rattle.con_rec.specs.declared.Outgoing.{Outgoing}
+use Rattle.con_rec.specs.declared.Step.{Step}
 use Prim.Native.Nat.{ℕ, suc, ◌<◌}
 use mathlib.Core.Path.{◌≡◌, refl, ap}
 use mathlib.Core.Bool.{Bool, true, false}
@@ -24,55 +29,52 @@ use Rattle.manager.specs.Types.{
   Answer,
   Done,
   Entry,
-  Found,
   Now,
   Plan,
   Refusal,
   SdoClientConnection,
   SdoClientManager,
-  Sends,
-  Stepped,
   Turn,
 }
 use Rattle.manager.proofs.WalkCalls.{live_table}
 
 -- ---- a walk by the first connection that does not rest: where that gives a command, or all rest
 
-abbrev Given : Sends → SdoClientConnection → ℕ → List SdoClientConnection → Walking → Type 0
-Given (Sends.Gives o) d k l w = w ≡ stopped k o (set l k d)
-Given Sends.Silent d k l w = Unit
+abbrev Given : Option Outgoing → SdoClientConnection → ℕ → List SdoClientConnection → Walking → Type 0
+Given (Some o) d k l w = w ≡ stopped k o (set l k d)
+Given None d k l w = Unit
 
-abbrev Came : Stepped → ℕ → List SdoClientConnection → Walking → Type 0
-Came (Stepped.Refused r) k l w = w ≡ refused r
-Came (Stepped.Went s) k l w = Given s.sends s.connection k l w
+abbrev Came : Result Step Refusal → ℕ → List SdoClientConnection → Walking → Type 0
+Came (Err r) k l w = w ≡ refused r
+Came (Ok s) k l w = Given s.sends s.connection k l w
 
-abbrev Walks : Found → Turn → Now → List SdoClientConnection → Walking → Type 0
-Walks Found.Absent t n l w = w ≡ through l
-Walks (Found.At k) t n l w = Came (at_turn t (get_or l k blank) n) k l w
+abbrev Walks : Option ℕ → Turn → Now → List SdoClientConnection → Walking → Type 0
+Walks None t n l w = w ≡ through l
+Walks (Some k) t n l w = Came (at_turn t (get_or l k blank) n) k l w
 
 module _ (t : Turn) (n : Now) where
-  given_on : (c : SdoClientConnection) (l : List SdoClientConnection) (k : ℕ) (w : Walking) (s : Sends) (d : SdoClientConnection)
+  given_on : (c : SdoClientConnection) (l : List SdoClientConnection) (k : ℕ) (w : Walking) (s : Option Outgoing) (d : SdoClientConnection)
       → Given s d k l w → Given s d (suc k) (c ∷ l) (passed c w)
-  given_on c l k w (Sends.Gives o) d h = ap (passed c) h
-  given_on c l k w Sends.Silent d h = tt
+  given_on c l k w (Some o) d h = ap (passed c) h
+  given_on c l k w None d h = tt
 
-  came_on : (c : SdoClientConnection) (l : List SdoClientConnection) (k : ℕ) (w : Walking) (a : Stepped)
+  came_on : (c : SdoClientConnection) (l : List SdoClientConnection) (k : ℕ) (w : Walking) (a : Result Step Refusal)
       → Came a k l w → Came a (suc k) (c ∷ l) (passed c w)
-  came_on c l k w (Stepped.Refused r) h = ap (passed c) h
-  came_on c l k w (Stepped.Went s) h = given_on c l k w s.sends s.connection h
+  came_on c l k w (Err r) h = ap (passed c) h
+  came_on c l k w (Ok s) h = given_on c l k w s.sends s.connection h
 
-  walks_on : (c : SdoClientConnection) (l : List SdoClientConnection) (w : Walking) (f : Found)
+  walks_on : (c : SdoClientConnection) (l : List SdoClientConnection) (w : Walking) (f : Option ℕ)
       → Walks f t n l w → Walks (one_further f) t n (c ∷ l) (passed c w)
-  walks_on c l w Found.Absent h = ap (passed c) h
-  walks_on c l w (Found.At k) h = came_on c l k w (at_turn t (get_or l k blank) n) h
+  walks_on c l w None h = ap (passed c) h
+  walks_on c l w (Some k) h = came_on c l k w (at_turn t (get_or l k blank) n) h
 
-  here : (c : SdoClientConnection) (l : List SdoClientConnection) (on : Walking) (a : Stepped) → Came a 0 (c ∷ l) (walk_step a l on)
-  here c l on (Stepped.Refused r) = refl
-  here c l on (Stepped.Went s) = gives s.sends
+  here : (c : SdoClientConnection) (l : List SdoClientConnection) (on : Walking) (a : Result Step Refusal) → Came a 0 (c ∷ l) (walk_step a l on)
+  here c l on (Err r) = refl
+  here c l on (Ok s) = gives s.sends
     where
-      gives : (x : Sends) → Given x s.connection 0 (c ∷ l) (stop_or x s.connection l on)
-      gives (Sends.Gives o) = refl
-      gives Sends.Silent = tt
+      gives : (x : Option Outgoing) → Given x s.connection 0 (c ∷ l) (stop_or x s.connection l on)
+      gives (Some o) = refl
+      gives None = tt
 
   due_walks : (l : List SdoClientConnection) → Walks (due_in t n l) t n l (walk_list t n l)
   unfolding pick
@@ -80,7 +82,7 @@ module _ (t : Turn) (n : Now) where
   due_walks (c ∷ l) = go (rests_of t c n) refl (due_walks l)
     where
       go : (b : Bool) → rests_of t c n ≡ b → Walks (due_in t n l) t n l (walk_list t n l)
-          → Walks (pick b (one_further (due_in t n l)) (Found.At 0)) t n (c ∷ l) (walk_step (at_turn t c n) l (walk_list t n l))
+          → Walks (pick b (one_further (due_in t n l)) (Some 0)) t n (c ∷ l) (walk_step (at_turn t c n) l (walk_list t n l))
       go true e h = rw (rests_quiet t c n e) (walks_on c l (walk_list t n l) (due_in t n l) h)
       go false e h = here c l (walk_list t n l) (at_turn t c n)
 
@@ -98,15 +100,15 @@ put_done m k d a = rw (live_table (set (live m) k d) m.next_transaction_id)
 -- ---- a plan, carried out
 
 -- the store is only read
-step_keeps : (a : Stepped) (t : Turn) (k : ℕ) (n : Now) (store output : Bytes) → store ≡ (plan_step a t k n store output).store
-step_keeps (Stepped.Refused r) t k n store output = refl
-step_keeps (Stepped.Went s) t k n store output = given s.sends s.connection
+step_keeps : (a : Result Step Refusal) (t : Turn) (k : ℕ) (n : Now) (store output : Bytes) → store ≡ (plan_step a t k n store output).store
+step_keeps (Err r) t k n store output = refl
+step_keeps (Ok s) t k n store output = given s.sends s.connection
   where
-    given : (x : Sends) (d : SdoClientConnection) → store ≡ (plan_given x d t k n store output).store
-    given (Sends.Gives o) d = refl
-    given Sends.Silent d = refl
+    given : (x : Option Outgoing) (d : SdoClientConnection) → store ≡ (plan_given x d t k n store output).store
+    given (Some o) d = refl
+    given None d = refl
 
-pub step_whole : (a : Stepped) (t : Turn) (k : ℕ) (n : Now) (store output : Bytes) {p : Plan} {out : Bytes}
+pub step_whole : (a : Result Step Refusal) (t : Turn) (k : ℕ) (n : Now) (store output : Bytes) {p : Plan} {out : Bytes}
     → p ≡ (plan_step a t k n store output).plan → out ≡ (plan_step a t k n store output).output
     → ◌≡◌ {A = Planned} (record { plan = p; store = store; output = out }) (plan_step a t k n store output)
 step_whole a t k n store output e f = λ i. record { plan = e i; store = step_keeps a t k n store output i; output = f i }
@@ -119,9 +121,9 @@ turn_keeps t m n store output =
     Keeps : Planned → Type 0
     Keeps p = store ≡ p.store
 
-    due : (f : Found) → Keeps (plan_at f t m n store output)
-    due Found.Absent = refl
-    due (Found.At k) = step_keeps (at_turn t (held_at m k) n) t k n store output
+    due : (f : Option ℕ) → Keeps (plan_at f t m n store output)
+    due None = refl
+    due (Some k) = step_keeps (at_turn t (held_at m k) n) t k n store output
 
 module _ (t : Turn) (m : SdoClientManager) (n : Now) (store output : Bytes) where
   abbrev Does : Planned → After → Type 0
@@ -134,21 +136,21 @@ module _ (t : Turn) (m : SdoClientManager) (n : Now) (store output : Bytes) wher
   refuses_so r = ap (λ (d : Done). carried d output) (same_done m (Answer.Refused r))
 
   module _ (w : Walking) (by : turn_of t m n store output ≡ walked_to w m store output) where
-    given_done : (s : Sends) (d : SdoClientConnection) (k : ℕ) → k < length (live m) → Given s d k (live m) w
+    given_done : (s : Option Outgoing) (d : SdoClientConnection) (k : ℕ) → k < length (live m) → Given s d k (live m) w
         → Does (plan_given s d t k n store output) (walked_to w m store output)
-    given_done (Sends.Gives o) d k h e =
+    given_done (Some o) d k h e =
         let back : get_or (set (live m) k d) k blank ≡ d = get_or-set_same (live m) k d blank h in
         rw (e, back) (ap (λ (x : Done). carried x (buffer_after (payload_of (room_in store d) o) output)) (put_done m k d (sent_to d o)))
-    given_done Sends.Silent d k h e = by
+    given_done None d k h e = by
 
-    step_done : (a : Stepped) (k : ℕ) → k < length (live m) → Came a k (live m) w → Does (plan_step a t k n store output) (walked_to w m store output)
-    step_done (Stepped.Refused r) k h e = rw e (refuses_so r)
-    step_done (Stepped.Went s) k h e = given_done s.sends s.connection k h e
+    step_done : (a : Result Step Refusal) (k : ℕ) → k < length (live m) → Came a k (live m) w → Does (plan_step a t k n store output) (walked_to w m store output)
+    step_done (Err r) k h e = rw e (refuses_so r)
+    step_done (Ok s) k h e = given_done s.sends s.connection k h e
 
-    walk_done : (f : Found) → Within (length (live m)) f → Walks f t n (live m) w → Does (plan_at f t m n store output) (walked_to w m store output)
+    walk_done : (f : Option ℕ) → Within (length (live m)) f → Walks f t n (live m) w → Does (plan_at f t m n store output) (walked_to w m store output)
     unfolding change_done entered_at number_after pick
-    walk_done Found.Absent h e = rw e refl
-    walk_done (Found.At k) h e = step_done (at_turn t (held_at m k) n) k h e
+    walk_done None h e = rw e refl
+    walk_done (Some k) h e = step_done (at_turn t (held_at m k) n) k h e
 
   turn_done : Does (turn_plan t m n store output) (turn_of t m n store output)
   unfolding turn_of turn_plan pick

@@ -1,4 +1,9 @@
 -- What a turn comes to by the walk's answer, and what is held by a table that a call leaves.
+use Rattle.std.specs.Prelude.{Option, Some, None, Result, Ok, Err}
+use Rattle.codec.specs.declared.refusal.Refusal.{Refusal}
+use Rattle.con_rec.specs.declared.SdoClientConnection.{SdoClientConnection}
+use Rattle.con_rec.specs.declared.Outgoing.{Outgoing}
+use Rattle.con_rec.specs.declared.Step.{Step}
 use Prim.Native.Nat.{ℕ, suc, min}
 use native.Mathlib.Omega.{arith}
 use mathlib.Core.Path.{◌≡◌, refl, sym, ap, ◌∙◌}
@@ -22,8 +27,6 @@ use Rattle.manager.specs.Types.{
   Refusal,
   SdoClientConnection,
   SdoClientManager,
-  Sends,
-  Stepped,
   Turn,
   Walk,
   Walked,
@@ -49,14 +52,14 @@ walk_long : (t : Turn) (now : Now) (l : List SdoClientConnection) → Long (leng
 walk_long t now [] = refl
 walk_long t now (c ∷ l) = step (at_turn t c now) (walk_long t now l)
   where
-    stop : (s : Sends) (d : SdoClientConnection) → Long (length l) (walk_list t now l)
+    stop : (s : Option Outgoing) (d : SdoClientConnection) → Long (length l) (walk_list t now l)
         → Long (suc (length l)) (stop_or s d l (walk_list t now l))
-    stop (Sends.Gives o) d h = refl
-    stop Sends.Silent d h = passed_long d (length l) (walk_list t now l) h
+    stop (Some o) d h = refl
+    stop None d h = passed_long d (length l) (walk_list t now l) h
 
-    step : (a : Stepped) → Long (length l) (walk_list t now l) → Long (suc (length l)) (walk_step a l (walk_list t now l))
-    step (Stepped.Refused r) h = tt
-    step (Stepped.Went s) h = stop s.sends s.connection h
+    step : (a : Result Step Refusal) → Long (length l) (walk_list t now l) → Long (suc (length l)) (walk_step a l (walk_list t now l))
+    step (Err r) h = tt
+    step (Ok s) h = stop s.sends s.connection h
 
 -- the held part of the array that a walk leaves is the walk's list
 live_after : (m : SdoClientManager) (l : List SdoClientConnection) → length l ≡ length (live m)

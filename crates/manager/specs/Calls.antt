@@ -2,7 +2,12 @@
 -- is lent, what it answers and which ends it reports. Starts check 9, 6, 4, 5, 7, 8. Tick and ask check 9, 1, then walk. A reply checks 9, then its
 -- own steps. Every refusal leaves state, store and output untouched, but 4 and 5 take a transaction number, and 5 for a new node enters an Idle
 -- connection.
-use Rattle.std.specs.Prelude.{ℕ, min, Bool, true, false, List, [], ◌∷◌, ltb, eqb, length, get_or}
+use Rattle.std.specs.Prelude.{ℕ, min, Bool, true, false, List, [], ◌∷◌, ltb, eqb, length, get_or, Option, Some, None, Result, Ok, Err}
+use Rattle.codec.specs.declared.refusal.Refusal.{Refusal}
+use Rattle.codec.specs.declared.sequence.SequenceLayerHeader.{SequenceLayerHeader}
+use Rattle.con_rec.specs.declared.SdoClientConnection.{SdoClientConnection}
+use Rattle.con_rec.specs.declared.Outgoing.{Outgoing}
+use Rattle.codec.specs.declared.command.SdoCommand.{SdoCommand}
 use Rattle.laws.specs.Pick.{pick}
 use Rattle.codec.specs.Bytes.{Bytes, placed}
 use Rattle.codec.specs.Writing.{buffer_after}
@@ -16,12 +21,9 @@ use Rattle.manager.specs.Change.{change_done, leaving, putting, refusing, same, 
 use Rattle.manager.specs.Types.{
   Answer,
   Change,
-  Taken,
-  Deadline,
   Decision,
   Done,
   Entry,
-  Found,
   Mode,
   Now,
   Outgoing,
@@ -75,7 +77,7 @@ abbrev pub refuses : Refusal → Bytes → Effect
 refuses r store = record { change = same (Answer.Refused r); store = store }
 
 -- what the job makes of a connection, and its bytes at the start of the room
-abbrev pub start_job : Job → SdoClientConnection → ℕ → Now → Bytes → Taken
+abbrev pub start_job : Job → SdoClientConnection → ℕ → Now → Bytes → Result SdoClientConnection Refusal
 start_job (writes mode index sub bytes) c t n room = start_write c t n mode index sub bytes room
 start_job (reads mode index sub) c t n room = start_read c t n mode index sub
 start_job (loads mode dcf) c t n room = start_dcf c t n mode dcf room
@@ -115,26 +117,26 @@ with_connection (Entry.At k c) d = Entry.At k d
 with_connection (Entry.New c) d = Entry.New d
 
 -- the connection that a job goes to; 9, or 6 where eight are held
-abbrev pub seat_of : Entry → Taken
-seat_of Entry.Nowhere = Taken.Refused Refusal.TableFull
-seat_of (Entry.At k c) = Taken.Connection c
-seat_of (Entry.New c) = Taken.Connection c
+abbrev pub seat_of : Entry → Result SdoClientConnection Refusal
+seat_of Entry.Nowhere = Err Refusal.TableFull
+seat_of (Entry.At k c) = Ok c
+seat_of (Entry.New c) = Ok c
 
-unfoldable pub seat_in : Entry → ℕ → Taken
-seat_in entry size = pick (eqb size store_size) (seat_of entry) (Taken.Refused Refusal.WrongStore)
+unfoldable pub seat_in : Entry → ℕ → Result SdoClientConnection Refusal
+seat_in entry size = pick (eqb size store_size) (seat_of entry) (Err Refusal.WrongStore)
 
-abbrev pub started_as : Taken → Entry → Change
-started_as (Taken.Connection d) entry = taking (with_connection entry d) Answer.Nothing
-started_as (Taken.Refused r) entry =
+abbrev pub started_as : Result SdoClientConnection Refusal → Entry → Change
+started_as (Ok d) entry = taking (with_connection entry d) Answer.Nothing
+started_as (Err r) entry =
     pick (takes_number r) (taking (idle_of entry) (Answer.Refused r)) (same (Answer.Refused r))
 
-abbrev pub started_store : Taken → Job → SdoClientConnection → Bytes → Bytes
-started_store (Taken.Connection d) job c store = with_room store c (job_room job (room_in store c))
-started_store (Taken.Refused r) job c store = store
+abbrev pub started_store : Result SdoClientConnection Refusal → Job → SdoClientConnection → Bytes → Bytes
+started_store (Ok d) job c store = with_room store c (job_room job (room_in store c))
+started_store (Err r) job c store = store
 
-abbrev pub start_at : Taken → Entry → SdoClientManager → Job → Now → Bytes → Effect
-start_at (Taken.Refused r) entry m job n store = refuses r store
-start_at (Taken.Connection c) entry m job n store =
+abbrev pub start_at : Result SdoClientConnection Refusal → Entry → SdoClientManager → Job → Now → Bytes → Effect
+start_at (Err r) entry m job n store = refuses r store
+start_at (Ok c) entry m job n store =
     record {
       change = started_as (start_job job c (number_of m) n (room_in store c)) entry;
       store = started_store (start_job job c (number_of m) n (room_in store c)) job c store;
@@ -145,13 +147,13 @@ start_of m node job n store =
     start_at (seat_in (target_of m node) (length store)) (target_of m node) m job n store
 
 -- a reply, by what the node's connection makes of it: one that ends a read Complete answers its value; a node that is not held is ignored
-abbrev pub replied_as : Taken → ℕ → Change
-replied_as (Taken.Connection d) k = putting (Entry.At k d) (value_of d)
-replied_as (Taken.Refused r) k = same (Answer.Refused r)
+abbrev pub replied_as : Result SdoClientConnection Refusal → ℕ → Change
+replied_as (Ok d) k = putting (Entry.At k d) (value_of d)
+replied_as (Err r) k = same (Answer.Refused r)
 
-abbrev pub replied_store : Taken → Bytes → Bytes → Bytes
-replied_store (Taken.Connection d) after store = after
-replied_store (Taken.Refused r) after store = store
+abbrev pub replied_store : Result SdoClientConnection Refusal → Bytes → Bytes → Bytes
+replied_store (Ok d) after store = after
+replied_store (Err r) after store = store
 
 abbrev pub reply_by : Decision → ℕ → SdoClientConnection → Bytes → Bytes → Effect
 reply_by x k c payload store =
@@ -160,9 +162,9 @@ reply_by x k c payload store =
       store = replied_store (replied x) (with_room store c (room_after x payload (room_in store c))) store;
     }
 
-abbrev pub reply_at : Found → SdoClientManager → SequenceLayerHeader → SdoCommand → Bytes → Bytes → Effect
-reply_at Found.Absent m seq cmd payload store = record { change = same Answer.Nothing; store = store }
-reply_at (Found.At k) m seq cmd payload store =
+abbrev pub reply_at : Option ℕ → SdoClientManager → SequenceLayerHeader → SdoCommand → Bytes → Bytes → Effect
+reply_at None m seq cmd payload store = record { change = same Answer.Nothing; store = store }
+reply_at (Some k) m seq cmd payload store =
     reply_by (reply_of seq cmd payload (held_at m k) (room_in store (held_at m k))) k (held_at m k) payload store
 
 unfoldable pub reply_from : SdoClientManager → ℕ → SequenceLayerHeader → SdoCommand → Bytes → Bytes → Effect
@@ -213,11 +215,11 @@ called m store output (replies node seq cmd payload) = carried_out m (reply_from
 
 -- ---- next_action_time: the least deadline, or none
 
-abbrev pub sooner : Deadline → Deadline → Deadline
-sooner Deadline.Never d = d
-sooner (Deadline.At a) Deadline.Never = Deadline.At a
-sooner (Deadline.At a) (Deadline.At b) = Deadline.At (min a b)
+abbrev pub sooner : Option ℕ → Option ℕ → Option ℕ
+sooner None d = d
+sooner (Some a) None = Some a
+sooner (Some a) (Some b) = Some (min a b)
 
-abbrev pub least_deadline : List SdoClientConnection → Deadline
-least_deadline [] = Deadline.Never
+abbrev pub least_deadline : List SdoClientConnection → Option ℕ
+least_deadline [] = None
 least_deadline (c ∷ l) = sooner c.waiting.deadline (least_deadline l)

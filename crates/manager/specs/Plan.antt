@@ -1,6 +1,10 @@
 -- The fast way of a call, for a loop that keeps the manager where it is: the call's plan, which is a change, or the walk where several connections may
 -- change. Carried out, a plan is the call (proofs' PlanCalls).
-use Rattle.std.specs.Prelude.{ℕ, ltb, eqb, length}
+use Rattle.std.specs.Prelude.{ℕ, ltb, eqb, length, Option, Some, None, Result, Ok, Err}
+use Rattle.codec.specs.declared.refusal.Refusal.{Refusal}
+use Rattle.con_rec.specs.declared.SdoClientConnection.{SdoClientConnection}
+use Rattle.con_rec.specs.declared.Outgoing.{Outgoing}
+use Rattle.con_rec.specs.declared.Step.{Step}
 use Rattle.laws.specs.Pick.{pick}
 use Rattle.codec.specs.Bytes.{Bytes}
 use Rattle.codec.specs.Writing.{buffer_after}
@@ -14,14 +18,11 @@ use Rattle.manager.specs.Types.{
   Answer,
   Change,
   Entry,
-  Found,
   Now,
   Plan,
   Refusal,
   SdoClientConnection,
   SdoClientManager,
-  Sends,
-  Stepped,
   Turn,
 }
 
@@ -36,18 +37,18 @@ plan_change change store output = record { plan = Plan.Change change; store = st
 
 -- ---- tick and ask: the first connection that does not rest gives a command, or all rest, or several may change
 
-abbrev pub plan_given : Sends → SdoClientConnection → Turn → ℕ → Now → Bytes → Bytes → Planned
-plan_given (Sends.Gives o) d t k n store output =
+abbrev pub plan_given : Option Outgoing → SdoClientConnection → Turn → ℕ → Now → Bytes → Bytes → Planned
+plan_given (Some o) d t k n store output =
     plan_change (putting (Entry.At k d) (sent_to d o)) store (buffer_after (payload_of (room_in store d) o) output)
-plan_given Sends.Silent d t k n store output = record { plan = Plan.Walk t n; store = store; output = output }
+plan_given None d t k n store output = record { plan = Plan.Walk t n; store = store; output = output }
 
-abbrev pub plan_step : Stepped → Turn → ℕ → Now → Bytes → Bytes → Planned
-plan_step (Stepped.Refused r) t k n store output = plan_change (same (Answer.Refused r)) store output
-plan_step (Stepped.Went s) t k n store output = plan_given s.sends s.connection t k n store output
+abbrev pub plan_step : Result Step Refusal → Turn → ℕ → Now → Bytes → Bytes → Planned
+plan_step (Err r) t k n store output = plan_change (same (Answer.Refused r)) store output
+plan_step (Ok s) t k n store output = plan_given s.sends s.connection t k n store output
 
-abbrev pub plan_at : Found → Turn → SdoClientManager → Now → Bytes → Bytes → Planned
-plan_at Found.Absent t m n store output = plan_change (putting Entry.Nowhere Answer.Nothing) store output
-plan_at (Found.At k) t m n store output = plan_step (at_turn t (held_at m k) n) t k n store output
+abbrev pub plan_at : Option ℕ → Turn → SdoClientManager → Now → Bytes → Bytes → Planned
+plan_at None t m n store output = plan_change (putting Entry.Nowhere Answer.Nothing) store output
+plan_at (Some k) t m n store output = plan_step (at_turn t (held_at m k) n) t k n store output
 
 unfoldable pub turn_plan : Turn → SdoClientManager → Now → Bytes → Bytes → Planned
 turn_plan t m n store output =

@@ -10,16 +10,16 @@ use crate::value::value_of;
 use codec::command::SdoCommand;
 use codec::refusal::Refusal;
 use codec::sequence::SequenceLayerHeader;
-use con_rec::Taken;
+use con_rec::SdoClientConnection;
 use man_table::held::{connection_at, find};
-use man_table::types::{Entry, Found, STORE_SIZE, SdoClientManager};
+use man_table::types::{Entry, SdoClientManager};
 
-fn replied_as(a: Taken, place: usize) -> Change
+fn replied_as(a: Result<SdoClientConnection, Refusal>, place: usize) -> Change
     ensures { result ≡ replied_as a place }
 {
     match a {
-        Taken::Connection(c) => putting(Entry::At(place, c), value_of(c)),
-        Taken::Refused(r) => same(Answer::Refused(r)),
+        Ok(c) => putting(Entry::At(place, c), value_of(c)),
+        Err(r) => same(Answer::Refused(r)),
     }
 }
 
@@ -35,14 +35,11 @@ pub fn reply_change(
     ensures value { result ≡ (reply_from m source seq cmd payload.now store.old).change }
     ensures store_after { store.new ≡ (reply_from m source seq cmd payload.now store.old).store }
 {
-    if store.len() == STORE_SIZE {
-        match find(m, source) {
-            Found::At(k) => {
-                let c = connection_at(m, k);
-                return replied_as(reply_in(c, seq, cmd, payload, store), k);
-            }
-            Found::Absent => return same(Answer::Nothing),
-        }
-    }
-    same(Answer::Refused(Refusal::WrongStore))
+    let Some(store) = store.as_mut_array() else {
+        return same(Answer::Refused(Refusal::WrongStore));
+    };
+    let Some(k) = find(m, source) else {
+        return same(Answer::Nothing);
+    };
+    replied_as(reply_in(connection_at(m, k), seq, cmd, payload, store), k)
 }

@@ -1,14 +1,14 @@
 // For the replay's loop, which keeps the manager where it is; a panel uses start. What a start changes of the manager: the job's bytes are in the store
 // when it is told. Refusals 9, 6, 4, 5, 7, 8, in this order.
 ghost use Rattle.std.specs.Prelude.{◌≡◌};
-ghost use Rattle.manager.specs.Calls.{writes, reads, loads, takes_number, idle_of, with_connection, seat_in, started_as, start_of};
+ghost use Rattle.manager.specs.Calls.{writes, reads, loads, takes_number, idle_of, with_connection, seat_of, started_as, start_of};
 
 use crate::change::{same, taking};
 use crate::room::{dcf_in, write_in};
 use crate::types::{Answer, Change};
 use codec::refusal::Refusal;
 use con_rec::numbers::next_transaction;
-use con_rec::{Mode, Now, SdoClientConnection, Taken};
+use con_rec::{Mode, Now, SdoClientConnection};
 use connection::start::start_read_job;
 use man_table::held::target_of;
 use man_table::types::{Entry, STORE_SIZE, SdoClientManager};
@@ -17,19 +17,7 @@ use man_table::types::{Entry, STORE_SIZE, SdoClientManager};
 fn takes_number(r: Refusal) -> bool
     ensures { result ≡ takes_number r }
 {
-    match r {
-        Refusal::BufferTooShort => false,
-        Refusal::InvalidEnumValue => false,
-        Refusal::SdoInvalidCommandPayload => false,
-        Refusal::Busy => true,
-        Refusal::DcfTooShort => true,
-        Refusal::TableFull => false,
-        Refusal::NoRoom => false,
-        Refusal::DeadlineRange => false,
-        Refusal::WrongStore => false,
-        Refusal::BadRecord => false,
-        Refusal::ShortRecord => false,
-    }
+    matches!(r, Refusal::Busy | Refusal::DcfTooShort)
 }
 
 // Another connection where one stands.
@@ -55,39 +43,32 @@ fn idle_of(entry: Entry) -> Entry
 }
 
 // What a start changes, by its connection's answer.
-fn started(a: Taken, entry: Entry) -> Change
+fn started(a: Result<SdoClientConnection, Refusal>, entry: Entry) -> Change
     ensures { result ≡ started_as a entry }
 {
     match a {
-        Taken::Connection(d) => return taking(with_connection(entry, d), Answer::Nothing),
-        Taken::Refused(r) => {
+        Ok(d) => taking(with_connection(entry, d), Answer::Nothing),
+        Err(r) => {
             if takes_number(r) {
                 return taking(idle_of(entry), Answer::Refused(r));
             }
-            return same(Answer::Refused(r));
+            same(Answer::Refused(r))
         }
     }
 }
 
-// The connection that a start's job goes to, or 9 or 6.
-fn seat_in(entry: Entry, store: usize) -> Taken
-    ensures { result ≡ seat_in entry store }
+// The connection that a start's job goes to, or 6.
+fn seat_of(entry: Entry) -> Result<SdoClientConnection, Refusal>
+    ensures { result ≡ seat_of entry }
 {
-    if store == STORE_SIZE {
-        match entry {
-            Entry::At(_, c) => {
-                return Taken::Connection(c);
-            }
-            Entry::New(c) => {
-                return Taken::Connection(c);
-            }
-            Entry::Nowhere => {
-                return Taken::Refused(Refusal::TableFull);
-            }
-        }
+    match entry {
+        Entry::At(_, c) => Ok(c),
+        Entry::New(c) => Ok(c),
+        Entry::Nowhere => Err(Refusal::TableFull),
     }
-    Taken::Refused(Refusal::WrongStore)
 }
+
+// The three starts stand side by side: a closure that borrows the store, where a full table leaves it uncalled, says nothing of the store after it.
 
 // What the start of a concise DCF job for a node changes.
 pub fn load_change(
@@ -103,9 +84,12 @@ pub fn load_change(
 {
     let entry = target_of(m, target);
     let number = next_transaction(m.next_transaction_id);
-    match seat_in(entry, store.len()) {
-        Taken::Connection(c) => started(dcf_in(c, mode, dcf, number, when, store), entry),
-        Taken::Refused(r) => same(Answer::Refused(r)),
+    let Some(store) = store.as_mut_array() else {
+        return same(Answer::Refused(Refusal::WrongStore));
+    };
+    match seat_of(entry) {
+        Ok(c) => started(dcf_in(c, mode, dcf, number, when, store), entry),
+        Err(r) => same(Answer::Refused(r)),
     }
 }
 
@@ -125,12 +109,15 @@ pub fn write_change(
 {
     let entry = target_of(m, target);
     let number = next_transaction(m.next_transaction_id);
-    match seat_in(entry, store.len()) {
-        Taken::Connection(c) => started(
+    let Some(store) = store.as_mut_array() else {
+        return same(Answer::Refused(Refusal::WrongStore));
+    };
+    match seat_of(entry) {
+        Ok(c) => started(
             write_in(c, mode, index, sub_index, bytes, number, when, store),
             entry,
         ),
-        Taken::Refused(r) => same(Answer::Refused(r)),
+        Err(r) => same(Answer::Refused(r)),
     }
 }
 
@@ -148,11 +135,14 @@ pub fn read_change(
 {
     let entry = target_of(m, target);
     let number = next_transaction(m.next_transaction_id);
-    match seat_in(entry, store.len()) {
-        Taken::Connection(c) => started(
+    if store.len() != STORE_SIZE {
+        return same(Answer::Refused(Refusal::WrongStore));
+    }
+    match seat_of(entry) {
+        Ok(c) => started(
             start_read_job(c, mode, index, sub_index, number, when),
             entry,
         ),
-        Taken::Refused(r) => same(Answer::Refused(r)),
+        Err(r) => same(Answer::Refused(r)),
     }
 }

@@ -11,12 +11,9 @@ pub(crate) fn first_of(m: SdoClientManager, n: usize) -> [SdoClientConnection; 8
     requires { n ≤ length (live m) }
     ensures { result ≡ padded (take n (live m)) }
 {
-    let b = blank();
     let mut out = m.connections;
-    let mut i = n;
-    while i < 8 {
-        out[i] = b;
-        i += 1;
+    for i in n..8 {
+        out[i] = blank();
     }
     out
 }
@@ -26,15 +23,13 @@ pub(crate) fn insert(m: SdoClientManager, c: SdoClientConnection, number: u8) ->
     requires { length (live m) < 8 }
     ensures { result ≡ table_of (insert_in c (live m)) number }
 {
-    let old = m.connections;
-    let n = lived(m);
+    let held = m.held();
+    let n = held.len();
     let place = place_of(m, c.target_node_id);
     let mut out = first_of(m, place);
     out[place] = c;
-    let mut i = place;
-    while i < n {
-        out[i + 1] = old[i];
-        i += 1;
+    for i in place..n {
+        out[i + 1] = held[i];
     }
     SdoClientManager {
         connections: out,

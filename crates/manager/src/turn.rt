@@ -45,28 +45,23 @@ pub(crate) fn take_turn(
     ensures value { result ≡ (called m store.now output.old (turns t n)).done }
     ensures output_after { output.new ≡ (called m store.now output.old (turns t n)).output }
 {
-    if store.len() == STORE_SIZE {
-        if output.len() < OUTPUT_SIZE {
-            return refusing(m, Refusal::BufferTooShort);
-        }
-        let w = walk(m, t, n);
-        let walked = w.walked;
-        let after = w.manager;
-        match walked {
-            Walked::Refused(r) => {
-                return refusing(m, r);
-            }
-            Walked::Through => {
-                return leaving(after, Answer::Nothing);
-            }
-            Walked::Stopped(k, o) => {
-                let c = held_at(after, k);
-                write_payload(o, room_in(store, c), output);
-                return leaving(after, sent_to(c, o));
-            }
+    let Some(store) = store.as_array() else {
+        return refusing(m, Refusal::WrongStore);
+    };
+    if output.len() < OUTPUT_SIZE {
+        return refusing(m, Refusal::BufferTooShort);
+    }
+    let w = walk(m, t, n);
+    let after = w.manager;
+    match w.walked {
+        Walked::Refused(r) => refusing(m, r),
+        Walked::Through => leaving(after, Answer::Nothing),
+        Walked::Stopped(k, o) => {
+            let c = held_at(after, k);
+            let _ = write_payload(o, room_in(store, c), output);
+            leaving(after, sent_to(c, o))
         }
     }
-    refusing(m, Refusal::WrongStore)
 }
 
 // What is to be sent next, to whom, its payload at the start of the output; and the jobs that are done. Call it when a frame can go

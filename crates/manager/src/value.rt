@@ -3,16 +3,17 @@ ghost use Rattle.std.specs.Prelude.{◌≡◌};
 ghost use Rattle.manager.specs.Value.{value_for, value_of};
 
 use crate::types::Answer;
-use con_rec::{Outcome, PendingRead, SdoClientConnection};
+use codec::request::ReadByIndexRequest;
+use con_rec::SdoClientConnection;
 use man_value::{is_complete, uploaded_part};
 
 // A read has a value, a write or a DCF none.
-fn value_for(pending: PendingRead, c: SdoClientConnection) -> Answer
+fn value_for(pending: Option<ReadByIndexRequest>, c: SdoClientConnection) -> Answer
     ensures { result ≡ value_for pending c }
 {
     match pending {
-        PendingRead::Read { .. } => Answer::Value(uploaded_part(c)),
-        PendingRead::NoRead => Answer::Nothing,
+        Some(_) => Answer::Value(uploaded_part(c)),
+        None => Answer::Nothing,
     }
 }
 
@@ -20,14 +21,11 @@ fn value_for(pending: PendingRead, c: SdoClientConnection) -> Answer
 pub(crate) fn value_of(c: SdoClientConnection) -> Answer
     ensures { result ≡ value_of c }
 {
-    let outcome = c.outcome;
-    let job = c.job;
-    let pending = job.pending_read;
-    let Outcome::Ended(why) = outcome else {
+    let Some(why) = c.outcome else {
         return Answer::Nothing;
     };
     if is_complete(why) {
-        return value_for(pending, c);
+        return value_for(c.job.pending_read, c);
     }
     Answer::Nothing
 }

@@ -1,3 +1,4 @@
 pub mod NumbersName
 pub mod NumbersRefuse
+mod Flags
 mod Headers

@@ -1,15 +1,18 @@
 -- The refusals of the C functions, by their numbers: what the codec's answers go by, and ahead of it what the numbers of a write name.
+use Rattle.std.specs.Prelude.{Option, Some, None, Result, Ok, Err}
+use Rattle.codec.specs.declared.sequence.SequenceLayerHeader.{SequenceLayerHeader}
+use Rattle.codec.specs.declared.command.CommandId.{CommandId}
+use Rattle.codec.specs.declared.command.SdoCommand.{SdoCommand}
 use Prim.Native.Nat.{ℕ, ◌≤◌, ◌<◌}
 use native.Mathlib.Omega.{arith}
 use mathlib.Core.Path.{◌≡◌, refl, sym, ap, ◌∙◌}
 use mathlib.Core.List.{List, [], ◌∷◌, ◌++◌}
 use mathlib.Core.Logic.{inl, inr}
 use lib.ListN.{get_or}
-use Rattle.laws.proofs.Checks.{Answers, Otherwise, exactly, refuses_below, told_by_lem, unrefused}
+use Rattle.laws.proofs.Checks.{Answers, Goes, Otherwise, exactly, ok_otherwise, refuses_below, told_by_lem, unrefused}
 use Rattle.laws.specs.Checks.{Check, check}
 use Rattle.codec.proofs.Commands.{membership}
 use Rattle.codec.proofs.Refuses.{
-  Goes,
   command_read_goes,
   command_write_goes,
   dcf_count_goes,
@@ -34,23 +37,13 @@ use Rattle.codec.specs.Command.{In, Named, command_bytes, command_numbers, comma
 use Rattle.codec.specs.Refusals.{refusal_number}
 use Rattle.codec.specs.Sequence.{sequence_bytes}
 use Rattle.codec.specs.Writing.{written}
-use Rattle.codec.specs.declared.command.CommandDecoded.{CommandDecoded}
-use Rattle.codec.specs.declared.command.CommandRead.{CommandRead}
-use Rattle.codec.specs.declared.dcf.DcfCount.{DcfCount}
 use Rattle.codec.specs.declared.refusal.Refusal.{Refusal}
-use Rattle.codec.specs.declared.request.ReadByIndexRead.{ReadByIndexRead}
-use Rattle.codec.specs.declared.request.ReadMultipleParamRead.{ReadMultipleParamRead}
-use Rattle.codec.specs.declared.request.WriteAllByIndexRead.{WriteAllByIndexRead}
-use Rattle.codec.specs.declared.request.WriteByIndexRead.{WriteByIndexRead}
-use Rattle.codec.specs.declared.sequence.SequenceRead.{SequenceRead}
-use Rattle.codec.specs.declared.sequence.Written.{Written}
 use Rattle.ostelumiv.specs.Answers.{written_fields}
 use Rattle.ostelumiv.specs.Causes.{NumbersRefuse, Tells, command_named_checks, sequence_named_checks}
 use Rattle.ostelumiv.specs.Command.{command_fields, command_named, command_with, command_write_fields, size_named}
 use Rattle.ostelumiv.specs.Dcf.{count_fields}
 use Rattle.ostelumiv.specs.Request.{entries_fields, read_fields, write_all_fields, write_fields}
 use Rattle.ostelumiv.specs.Sequence.{header_named, sequence_fields, sequence_write_fields}
-use Rattle.ostelumiv.specs.declared.command.CommandNamed.{CommandNamed}
 
 -- ---- no two refusals have one number, and none has 0
 abbrev refusals : List Refusal
@@ -89,33 +82,33 @@ same : (r s : Refusal) → refusal_number r ≡ refusal_number s → r ≡ s
 same r s e = sym (known r).0 ∙ ap numbered e ∙ (known s).0
 
 -- ---- numbers that go by checks
-abbrev None : ℕ → Type 0
-None n = n ≡ 0
+abbrev NoRefusal : ℕ → Type 0
+NoRefusal n = n ≡ 0
 
 abbrev Number : List (Check Refusal) → ℕ → Type 0
-Number = Answers refusal_number None
+Number = Answers refusal_number NoRefusal
 
-never : (r : Refusal) → None (refusal_number r) → ⊥
+never : (r : Refusal) → NoRefusal (refusal_number r) → ⊥
 never r e = let k = (known r).1 in omega arith
 
 tells : (l : List (Check Refusal)) (n : ℕ) → Number l n → Tells l n
-tells l n a = (exactly refusal_number None never same l n a, unrefused refusal_number None never l n a)
+tells l n a = (exactly refusal_number NoRefusal never same l n a, unrefused refusal_number NoRefusal never l n a)
 
--- the number that is told of an answer
-module _ {A : Type 0} (refused : Refusal → A) (number : A → ℕ) (is : (r : Refusal) → number (refused r) ≡ refusal_number r)
-    (none : (x : A) → Otherwise refused x → number x ≡ 0) where
-  number_of : (l : List (Check Refusal)) (x : A) → Goes refused l x → Number (l ++ []) (number x)
-  number_of l x = told_by_lem refused (Otherwise refused) refusal_number None number is l [] x (none x)
+-- the number that is told of an answer: 0 of what is no refusal's
+module _ {T : Type 0} (number : Result T Refusal → ℕ) (is : (r : Refusal) → number (Err r) ≡ refusal_number r)
+    (none : (x : T) → number (Ok x) ≡ 0) where
+  nothing : (x : Result T Refusal) → Otherwise Err x → number x ≡ 0
+  nothing (Ok x) o = none x
+  nothing (Err r) o = absurd (o r refl)
 
-  tells_of : (l : List (Check Refusal)) (x : A) → Goes refused l x → Tells (l ++ []) (number x)
+  number_of : (l : List (Check Refusal)) (x : Result T Refusal) → Goes l x → Number (l ++ []) (number x)
+  number_of l x = told_by_lem Err (Otherwise Err) refusal_number NoRefusal number is l [] x (nothing x)
+
+  tells_of : (l : List (Check Refusal)) (x : Result T Refusal) → Goes l x → Tells (l ++ []) (number x)
   tells_of l x g = tells (l ++ []) (number x) (number_of l x g)
 
-written_none : (x : Written) → Otherwise Written.Refused x → (written_fields x).refusal ≡ 0
-written_none (Written.Bytes n) h = refl
-written_none (Written.Refused r) h = absurd (h r refl)
-
-of_written : (l : List (Check Refusal)) (x : Written) → Goes Written.Refused l x → Number (l ++ []) (written_fields x).refusal
-of_written = number_of Written.Refused (λ x. (written_fields x).refusal) (λ r. refl) written_none
+of_written : (l : List (Check Refusal)) (x : Result ℕ Refusal) → Goes l x → Number (l ++ []) (written_fields x).refusal
+of_written = number_of (λ x. (written_fields x).refusal) (λ r. refl) (λ n. refl)
 
 -- ---- what the numbers of a write name
 module _ (receive receive_state send send_state : ℕ) (buffer : Bytes) where
@@ -125,106 +118,78 @@ module _ (receive receive_state send send_state : ℕ) (buffer : Bytes) where
   abbrev state_checks : List (Check Refusal)
   state_checks = check Refusal.InvalidEnumValue (3 < receive_state) ∷ send_check
 
-  abbrev header : SequenceRead
+  abbrev header : Result SequenceLayerHeader Refusal
   header = header_named receive receive_state send send_state
 
-  header_goes : Goes SequenceRead.Refused state_checks header
+  header_goes : Goes state_checks header
   header_goes =
-      refuses_below SequenceRead.Refused (Otherwise SequenceRead.Refused) send_check _ 3 receive_state
-      (λ e. refuses_below SequenceRead.Refused (Otherwise SequenceRead.Refused) [] _ 3 send_state
-      (λ f r g. let z : ◌≡◌ {A = ℕ} 0 1 = cc in omega arith))
+      refuses_below Err (Otherwise Err) send_check _ 3 receive_state
+      (λ e. refuses_below Err (Otherwise Err) [] _ 3 send_state
+      (λ f. ok_otherwise _))
 
   sequence_write_number : Number (sequence_named_checks receive_state send_state buffer) (sequence_write_fields header buffer).refusal
   sequence_write_number =
-      told_by_lem SequenceRead.Refused (Otherwise SequenceRead.Refused) refusal_number None (λ x. (sequence_write_fields x buffer).refusal) (λ r. refl)
+      told_by_lem Err (Otherwise Err) refusal_number NoRefusal (λ x. (sequence_write_fields x buffer).refusal) (λ r. refl)
       state_checks (sequence_write_checks buffer) header (go header) header_goes
     where
-      go : (x : SequenceRead) → Otherwise SequenceRead.Refused x → Number (sequence_write_checks buffer) (sequence_write_fields x buffer).refusal
-      go (SequenceRead.Header h) o = of_written (sequence_write_checks buffer) (written (sequence_bytes h) buffer) (sequence_write_goes h buffer)
-      go (SequenceRead.Refused r) o = absurd (o r refl)
+      go : (x : Result SequenceLayerHeader Refusal) → Otherwise Err x → Number (sequence_write_checks buffer) (sequence_write_fields x buffer).refusal
+      go (Ok h) o = of_written (sequence_write_checks buffer) (written (sequence_bytes h) buffer) (sequence_write_goes h buffer)
+      go (Err r) o = absurd (o r refl)
 
 module _ (transaction response aborted segmentation number segment has size : ℕ) (payload buffer : Bytes) where
   -- a command that is named has the segmentation that was given
-  abbrev Kind : CommandNamed → Type 0
-  Kind (CommandNamed.Command c) = c.header.segmentation ≡ segmentation_of segmentation
-  Kind (CommandNamed.Refused r) = ⊥
+  abbrev Kind : Result SdoCommand Refusal → Type 0
+  Kind (Ok c) = c.header.segmentation ≡ segmentation_of segmentation
+  Kind (Err r) = ⊥
 
   abbrev number_check : List (Check Refusal)
   number_check = check Refusal.InvalidEnumValue (In number command_numbers → ⊥) ∷ []
 
-  with_goes : (d : CommandDecoded) → Named number command_numbers d
-      → Answers CommandNamed.Refused Kind number_check
+  with_goes : (d : Option CommandId) → Named number command_numbers d
+      → Answers Err Kind number_check
       (command_with transaction response aborted segmentation d segment (size_named has size))
-  with_goes (CommandDecoded.Known id) h = inr (λ z. z h.0, refl)
-  with_goes CommandDecoded.Unknown h = inl (h, refl)
+  with_goes (Some id) h = inr (λ z. z h.0, refl)
+  with_goes None h = inl (h, refl)
 
-  abbrev named : CommandNamed
+  abbrev named : Result SdoCommand Refusal
   named = command_named transaction response aborted segmentation number segment has size
 
   command_write_number : Number (command_named_checks segmentation number payload buffer) (command_write_fields named payload buffer).refusal
   command_write_number =
-      told_by_lem CommandNamed.Refused Kind refusal_number None (λ x. (command_write_fields x payload buffer).refusal) (λ r. refl)
+      told_by_lem Err Kind refusal_number NoRefusal (λ x. (command_write_fields x payload buffer).refusal) (λ r. refl)
       (check Refusal.InvalidEnumValue (3 < segmentation) ∷ number_check) (command_write_checks (segmentation_of segmentation) payload buffer)
       named (go named)
-      (refuses_below CommandNamed.Refused Kind number_check _ 3 segmentation (λ e. with_goes (command_of number) (membership number)))
+      (refuses_below Err Kind number_check _ 3 segmentation (λ e. with_goes (command_of number) (membership number)))
     where
-      go : (x : CommandNamed) → Kind x
+      go : (x : Result SdoCommand Refusal) → Kind x
           → Number (command_write_checks (segmentation_of segmentation) payload buffer) (command_write_fields x payload buffer).refusal
-      go (CommandNamed.Command c) k =
+      go (Ok c) k =
           rw (← k)
           (of_written (command_write_checks c.header.segmentation payload buffer) (written (command_bytes c payload) buffer)
           (command_write_goes c payload buffer))
-      go (CommandNamed.Refused r) k = absurd k
+      go (Err r) k = absurd k
 
 pub numbers_refuse : NumbersRefuse
 numbers_refuse =
     record {
       sequence_read_lem = λ b.
-          tells_of SequenceRead.Refused (λ x. (sequence_fields x).refusal) (λ r. refl) header_none (sequence_read_checks b) _ (sequence_read_goes b);
+          tells_of (λ x. (sequence_fields x).refusal) (λ r. refl) (λ q. refl) (sequence_read_checks b) _ (sequence_read_goes b);
       sequence_write = λ receive receive_state send send_state buffer.
           tells (sequence_named_checks receive_state send_state buffer) _ (sequence_write_number receive receive_state send send_state buffer);
       command_read_lem = λ b.
-          tells_of CommandRead.Refused (λ x. (command_fields x).refusal) (λ r. refl) command_none (command_read_checks b) _ (command_read_goes b);
+          tells_of (λ x. (command_fields x).refusal) (λ r. refl) (λ q. refl) (command_read_checks b) _ (command_read_goes b);
       command_write = λ transaction response aborted segmentation number segment has size payload buffer.
           tells (command_named_checks segmentation number payload buffer) _
           (command_write_number transaction response aborted segmentation number segment has size payload buffer);
       read_by_index_lem = λ p.
-          tells_of ReadByIndexRead.Refused (λ x. (read_fields x).refusal) (λ r. refl) read_none (index_checks p) _ (read_by_index_goes p);
+          tells_of (λ x. (read_fields x).refusal) (λ r. refl) (λ q. refl) (index_checks p) _ (read_by_index_goes p);
       write_by_index_lem = λ p.
-          tells_of WriteByIndexRead.Refused (λ x. (write_fields x).refusal) (λ r. refl) write_none (index_checks p) _ (write_by_index_goes p);
+          tells_of (λ x. (write_fields x).refusal) (λ r. refl) (λ q. refl) (index_checks p) _ (write_by_index_goes p);
       write_all_by_index_lem = λ p.
-          tells_of WriteAllByIndexRead.Refused (λ x. (write_all_fields x).refusal) (λ r. refl) all_none (index_checks p) _ (write_all_by_index_goes p);
+          tells_of (λ x. (write_all_fields x).refusal) (λ r. refl) (λ q. refl) (index_checks p) _ (write_all_by_index_goes p);
       read_multiple_param_lem = λ p.
-          tells_of ReadMultipleParamRead.Refused (λ x. (entries_fields x).refusal) (λ r. refl) entries_none (multiple_checks p) _
+          tells_of (λ x. (entries_fields x).refusal) (λ r. refl) (λ q. refl) (multiple_checks p) _
           (read_multiple_param_goes p);
       dcf_count_lem = λ b.
-          tells_of DcfCount.Refused (λ x. (count_fields x).refusal) (λ r. refl) count_none (dcf_checks b) _ (dcf_count_goes b);
+          tells_of (λ x. (count_fields x).refusal) (λ r. refl) (λ q. refl) (dcf_checks b) _ (dcf_count_goes b);
     }
-  where
-    header_none : (x : SequenceRead) → Otherwise SequenceRead.Refused x → (sequence_fields x).refusal ≡ 0
-    header_none (SequenceRead.Header h) o = refl
-    header_none (SequenceRead.Refused r) o = absurd (o r refl)
-
-    command_none : (x : CommandRead) → Otherwise CommandRead.Refused x → (command_fields x).refusal ≡ 0
-    command_none (CommandRead.Command c start len) o = refl
-    command_none (CommandRead.Refused r) o = absurd (o r refl)
-
-    read_none : (x : ReadByIndexRead) → Otherwise ReadByIndexRead.Refused x → (read_fields x).refusal ≡ 0
-    read_none (ReadByIndexRead.Request q) o = refl
-    read_none (ReadByIndexRead.Refused r) o = absurd (o r refl)
-
-    write_none : (x : WriteByIndexRead) → Otherwise WriteByIndexRead.Refused x → (write_fields x).refusal ≡ 0
-    write_none (WriteByIndexRead.Request q) o = refl
-    write_none (WriteByIndexRead.Refused r) o = absurd (o r refl)
-
-    all_none : (x : WriteAllByIndexRead) → Otherwise WriteAllByIndexRead.Refused x → (write_all_fields x).refusal ≡ 0
-    all_none (WriteAllByIndexRead.Request q) o = refl
-    all_none (WriteAllByIndexRead.Refused r) o = absurd (o r refl)
-
-    entries_none : (x : ReadMultipleParamRead) → Otherwise ReadMultipleParamRead.Refused x → (entries_fields x).refusal ≡ 0
-    entries_none (ReadMultipleParamRead.Entries n) o = refl
-    entries_none (ReadMultipleParamRead.Refused r) o = absurd (o r refl)
-
-    count_none : (x : DcfCount) → Otherwise DcfCount.Refused x → (count_fields x).refusal ≡ 0
-    count_none (DcfCount.Count n) o = refl
-    count_none (DcfCount.Refused r) o = absurd (o r refl)

@@ -2,8 +2,7 @@
 ghost use Rattle.std.specs.Prelude.{◌≡◌};
 ghost use Rattle.ostelumiv.specs.Answers.{written_fields, count_refused};
 
-use codec::refusal::{Refusal, refusal_number};
-use codec::sequence::Written;
+use codec::refusal::Refusal;
 
 #[repr(C)]
 #[derive(Clone, Copy)]
@@ -19,16 +18,13 @@ pub struct CountFields {
     pub count: usize,
 }
 
-pub(crate) fn written_fields(w: Written) -> WrittenFields
+pub(crate) fn written_fields(w: Result<usize, Refusal>) -> WrittenFields
     ensures { result ≡ written_fields w }
 {
     match w {
-        Written::Bytes(n) => WrittenFields {
-            refusal: 0,
-            bytes: n,
-        },
-        Written::Refused(r) => WrittenFields {
-            refusal: refusal_number(r),
+        Ok(bytes) => WrittenFields { refusal: 0, bytes },
+        Err(r) => WrittenFields {
+            refusal: u8::from(r),
             bytes: 0,
         },
     }
@@ -38,7 +34,7 @@ pub(crate) fn count_refused(r: Refusal) -> CountFields
     ensures { result ≡ count_refused r }
 {
     CountFields {
-        refusal: refusal_number(r),
+        refusal: u8::from(r),
         count: 0,
     }
 }

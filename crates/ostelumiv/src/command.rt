@@ -15,15 +15,11 @@ ghost use Rattle.ostelumiv.specs.Command.{
 };
 
 use crate::answers::{WrittenFields, written_fields};
-use codec::command::{
-    CommandDecoded, CommandLayerHeader, CommandListed, CommandRead, DataSize, SdoCommand,
-    command_at, command_of, segmentation_number, segmentation_of,
-};
-use codec::refusal::{Refusal, refusal_number};
-use codec::sequence::Written;
+use codec::command::{CommandId, CommandLayerHeader, SdoCommand, Segmentation, command_at};
+use codec::refusal::Refusal;
 
 #[repr(C)]
-#[derive(Clone, Copy)]
+#[derive(Clone, Copy, Default)]
 pub struct CommandFields {
     pub refusal: u8,
     pub transaction_id: u8,
@@ -40,59 +36,17 @@ pub struct CommandFields {
 
 // A place of the listing: 1 and its number, or 0 and 0.
 #[repr(C)]
-#[derive(Clone, Copy)]
+#[derive(Clone, Copy, Default)]
 pub struct ListedFields {
     pub listed: u8,
     pub number: u8,
 }
 
-// What the numbers of a command name.
-#[derive(Clone, Copy)]
-enum CommandNamed {
-    Command(SdoCommand),
-    Refused(Refusal),
-}
-
-fn size_present(d: DataSize) -> u8
-    ensures { result ≡ size_present d }
-{
-    match d {
-        DataSize::Present(_) => 1,
-        DataSize::Absent => 0,
-    }
-}
-
-fn size_number(d: DataSize) -> u32
-    ensures { result ≡ size_number d }
-{
-    match d {
-        DataSize::Present(n) => n,
-        DataSize::Absent => 0,
-    }
-}
-
-fn number_of(flag: bool) -> u8
-    ensures { result ≡ number_of flag }
-{
-    if flag { 1 } else { 0 }
-}
-
 #[tactic(auto, using(laws::proofs::Picks::is, laws::proofs::Picks::is_not))]
-fn flagged_by(n: u8) -> bool
-    ensures { result ≡ flagged n }
-{
-    if n == 0 { false } else { true }
-}
-
-#[tactic(auto, using(laws::proofs::Picks::is, laws::proofs::Picks::is_not))]
-fn size_named(has: u8, size: u32) -> DataSize
+fn size_named(has: u8, size: u32) -> Option<u32>
     ensures { result ≡ size_named has size }
 {
-    if has == 0 {
-        DataSize::Absent
-    } else {
-        DataSize::Present(size)
-    }
+    if has == 0 { None } else { Some(size) }
 }
 
 // The command that eight numbers name, or 2.
@@ -106,21 +60,19 @@ fn command_named(
     segment: u16,
     has: u8,
     size: u32,
-) -> CommandNamed
+) -> Result<SdoCommand, Refusal>
     ensures { result ≡ command_named transaction response aborted segmentation number segment has size }
 {
     if 3 < segmentation {
-        return CommandNamed::Refused(Refusal::InvalidEnumValue);
+        return Err(Refusal::InvalidEnumValue);
     }
-    let CommandDecoded::Known(command_id) = command_of(number) else {
-        return CommandNamed::Refused(Refusal::InvalidEnumValue);
-    };
-    CommandNamed::Command(SdoCommand {
+    let command_id = CommandId::try_from(number)?;
+    Ok(SdoCommand {
         header: CommandLayerHeader {
             transaction_id: transaction,
-            is_response: flagged_by(response),
-            is_aborted: flagged_by(aborted),
-            segmentation: segmentation_of(segmentation),
+            is_response: response != 0,
+            is_aborted: aborted != 0,
+            segmentation: Segmentation::from(segmentation),
             command_id,
             segment_size: segment,
         },
@@ -135,41 +87,27 @@ pub extern "C" fn ostelumiv_command_read(buffer: &[u8]) -> CommandFields
     ensures { result ≡ command_fields (command_read buffer.now) }
 {
     match SdoCommand::deserialize(buffer) {
-        CommandRead::Command {
-            command,
-            start,
-            len,
-        } => {
-            let header = command.header;
-            let data_size = command.data_size;
-            let segmentation = header.segmentation;
+        Ok(found) => {
+            let header = found.command.header;
+            let data_size = found.command.data_size;
             CommandFields {
                 refusal: 0,
                 transaction_id: header.transaction_id,
-                is_response: number_of(header.is_response),
-                is_aborted: number_of(header.is_aborted),
-                segmentation: segmentation_number(segmentation),
-                // The number that was decoded: to find it again from its command would take a table.
+                is_response: u8::from(header.is_response),
+                is_aborted: u8::from(header.is_aborted),
+                segmentation: u8::from(header.segmentation),
+                // the number that was decoded: it need not be found again from its command
                 command_id: buffer[3],
                 segment_size: header.segment_size,
-                has_data_size: size_present(data_size),
-                data_size: size_number(data_size),
-                payload_start: start,
-                payload_len: len,
+                has_data_size: u8::from(data_size.is_some()),
+                data_size: data_size.unwrap_or(0),
+                payload_start: found.start,
+                payload_len: found.len,
             }
         }
-        CommandRead::Refused(r) => CommandFields {
-            refusal: refusal_number(r),
-            transaction_id: 0,
-            is_response: 0,
-            is_aborted: 0,
-            segmentation: 0,
-            command_id: 0,
-            segment_size: 0,
-            has_data_size: 0,
-            data_size: 0,
-            payload_start: 0,
-            payload_len: 0,
+        Err(r) => CommandFields {
+            refusal: u8::from(r),
+            ..CommandFields::default()
         },
     }
 }
@@ -202,8 +140,8 @@ pub extern "C" fn ostelumiv_command_write(
         has_data_size,
         data_size,
     ) {
-        CommandNamed::Command(c) => written_fields(c.serialize(payload, buffer)),
-        CommandNamed::Refused(r) => written_fields(Written::Refused(r)),
+        Ok(c) => written_fields(c.serialize(payload, buffer)),
+        Err(r) => written_fields(Err(r)),
     }
 }
 
@@ -213,10 +151,7 @@ pub extern "C" fn ostelumiv_command_at(place: usize) -> ListedFields
     ensures { result ≡ listed_fields (command_at place) }
 {
     match command_at(place) {
-        CommandListed::Number(number) => ListedFields { listed: 1, number },
-        CommandListed::NoneSuch => ListedFields {
-            listed: 0,
-            number: 0,
-        },
+        Some(number) => ListedFields { listed: 1, number },
+        None => ListedFields::default(),
     }
 }

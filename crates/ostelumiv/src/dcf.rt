@@ -4,10 +4,10 @@ ghost use Rattle.codec.specs.Dcf.{dcf_count, dcf_step};
 ghost use Rattle.ostelumiv.specs.Dcf.{count_fields, no_entry, step_fields};
 
 use crate::answers::{CountFields, count_refused};
-use codec::dcf::{DcfCount, DcfCursor, DcfStep, dcf_count, dcf_step};
+use codec::dcf::{DcfCursor, DcfStep, dcf_count, dcf_step};
 
 #[repr(C)]
-#[derive(Clone, Copy)]
+#[derive(Clone, Copy, Default)]
 pub struct StepFields {
     pub kind: u8,
     pub sub_index: u8,
@@ -24,12 +24,7 @@ fn no_entry(kind: u8) -> StepFields
 {
     StepFields {
         kind,
-        sub_index: 0,
-        index: 0,
-        start: 0,
-        len: 0,
-        next_at: 0,
-        next_left: 0,
+        ..StepFields::default()
     }
 }
 
@@ -39,11 +34,11 @@ pub extern "C" fn ostelumiv_dcf_count(dcf: &[u8]) -> CountFields
     ensures { result ≡ count_fields (dcf_count dcf.now) }
 {
     match dcf_count(dcf) {
-        DcfCount::Count(n) => CountFields {
+        Ok(n) => CountFields {
             refusal: 0,
             count: n as usize,
         },
-        DcfCount::Refused(r) => count_refused(r),
+        Err(r) => count_refused(r),
     }
 }
 
@@ -53,18 +48,12 @@ pub extern "C" fn ostelumiv_dcf_step(dcf: &[u8], at: usize, left: u32) -> StepFi
     ensures { result ≡ step_fields (dcf_step dcf.now (record { at = at; left = left })) }
 {
     match dcf_step(dcf, DcfCursor { at, left }) {
-        DcfStep::Entry {
-            index,
-            sub_index,
-            start,
-            len,
-            next,
-        } => StepFields {
+        DcfStep::Entry { entry, next } => StepFields {
             kind: 1,
-            sub_index,
-            index,
-            start,
-            len: len as usize,
+            sub_index: entry.sub_index,
+            index: entry.index,
+            start: entry.start,
+            len: entry.len as usize,
             next_at: next.at,
             next_left: next.left,
         },

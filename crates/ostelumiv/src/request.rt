@@ -17,15 +17,14 @@ ghost use Rattle.ostelumiv.specs.Request.{
 };
 
 use crate::answers::{CountFields, count_refused};
-use codec::refusal::{Refusal, refusal_number};
+use codec::refusal::Refusal;
 use codec::request::{
-    MultipleParamFound, ReadByIndexRead, ReadByIndexRequest, ReadMultipleParamRead,
-    WriteAllByIndexRead, WriteAllByIndexRequest, WriteByIndexRead, WriteByIndexRequest,
-    multiple_param_entry, read_multiple_param,
+    ReadByIndexRequest, WriteAllByIndexRequest, WriteByIndexRequest, multiple_param_entry,
+    read_multiple_param,
 };
 
 #[repr(C)]
-#[derive(Clone, Copy)]
+#[derive(Clone, Copy, Default)]
 pub struct IndexFields {
     pub refusal: u8,
     pub sub_index: u8,
@@ -35,7 +34,7 @@ pub struct IndexFields {
 }
 
 #[repr(C)]
-#[derive(Clone, Copy)]
+#[derive(Clone, Copy, Default)]
 pub struct EntryFields {
     pub found: u8,
     pub sub_index: u8,
@@ -46,11 +45,8 @@ fn index_refused(r: Refusal) -> IndexFields
     ensures { result ≡ index_refused r }
 {
     IndexFields {
-        refusal: refusal_number(r),
-        sub_index: 0,
-        index: 0,
-        data_start: 0,
-        data_len: 0,
+        refusal: u8::from(r),
+        ..IndexFields::default()
     }
 }
 
@@ -60,14 +56,12 @@ pub extern "C" fn ostelumiv_read_by_index(payload: &[u8]) -> IndexFields
     ensures { result ≡ read_fields (read_by_index payload.now) }
 {
     match ReadByIndexRequest::from_payload(payload) {
-        ReadByIndexRead::Request(q) => IndexFields {
-            refusal: 0,
+        Ok(q) => IndexFields {
             sub_index: q.sub_index,
             index: q.index,
-            data_start: 0,
-            data_len: 0,
+            ..IndexFields::default()
         },
-        ReadByIndexRead::Refused(r) => index_refused(r),
+        Err(r) => index_refused(r),
     }
 }
 
@@ -77,14 +71,14 @@ pub extern "C" fn ostelumiv_write_by_index(payload: &[u8]) -> IndexFields
     ensures { result ≡ write_fields (write_by_index payload.now) }
 {
     match WriteByIndexRequest::from_payload(payload) {
-        WriteByIndexRead::Request(q) => IndexFields {
+        Ok(q) => IndexFields {
             refusal: 0,
             sub_index: q.sub_index,
             index: q.index,
             data_start: q.start,
             data_len: q.len,
         },
-        WriteByIndexRead::Refused(r) => index_refused(r),
+        Err(r) => index_refused(r),
     }
 }
 
@@ -94,14 +88,14 @@ pub extern "C" fn ostelumiv_write_all_by_index(payload: &[u8]) -> IndexFields
     ensures { result ≡ write_all_fields (write_all_by_index payload.now) }
 {
     match WriteAllByIndexRequest::from_payload(payload) {
-        WriteAllByIndexRead::Request(q) => IndexFields {
+        Ok(q) => IndexFields {
             refusal: 0,
             sub_index: 0,
             index: q.index,
             data_start: q.start,
             data_len: q.len,
         },
-        WriteAllByIndexRead::Refused(r) => index_refused(r),
+        Err(r) => index_refused(r),
     }
 }
 
@@ -111,11 +105,8 @@ pub extern "C" fn ostelumiv_read_multiple_param(payload: &[u8]) -> CountFields
     ensures { result ≡ entries_fields (read_multiple_param payload.now) }
 {
     match read_multiple_param(payload) {
-        ReadMultipleParamRead::Entries(n) => CountFields {
-            refusal: 0,
-            count: n,
-        },
-        ReadMultipleParamRead::Refused(r) => count_refused(r),
+        Ok(count) => CountFields { refusal: 0, count },
+        Err(r) => count_refused(r),
     }
 }
 
@@ -124,16 +115,12 @@ pub extern "C" fn ostelumiv_read_multiple_param(payload: &[u8]) -> CountFields
 pub extern "C" fn ostelumiv_multiple_param_entry(payload: &[u8], place: usize) -> EntryFields
     ensures { result ≡ entry_fields (multiple_param_entry payload.now place) }
 {
-    let MultipleParamFound::Entry(e) = multiple_param_entry(payload, place) else {
-        return EntryFields {
-            found: 0,
-            sub_index: 0,
-            index: 0,
-        };
-    };
-    EntryFields {
-        found: 1,
-        sub_index: e.sub_index,
-        index: e.index,
+    match multiple_param_entry(payload, place) {
+        Some(e) => EntryFields {
+            found: 1,
+            sub_index: e.sub_index,
+            index: e.index,
+        },
+        None => EntryFields::default(),
     }
 }

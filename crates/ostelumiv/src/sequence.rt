@@ -4,14 +4,11 @@ ghost use Rattle.codec.specs.Sequence.{sequence_read};
 ghost use Rattle.ostelumiv.specs.Sequence.{sequence_fields, header_named, sequence_write_fields, sequence_write_buffer};
 
 use crate::answers::{WrittenFields, written_fields};
-use codec::refusal::{Refusal, refusal_number};
-use codec::sequence::{
-    SequenceLayerHeader, SequenceRead, Written, receive_number, receive_state, send_number,
-    send_state,
-};
+use codec::refusal::Refusal;
+use codec::sequence::{ReceiveConnState, SendConnState, SequenceLayerHeader};
 
 #[repr(C)]
-#[derive(Clone, Copy)]
+#[derive(Clone, Copy, Default)]
 pub struct SequenceFields {
     pub refusal: u8,
     pub receive_sequence_number: u8,
@@ -22,20 +19,25 @@ pub struct SequenceFields {
 
 // The header that four numbers name, or 2.
 #[tactic(auto, using(laws::proofs::Picks::below, laws::proofs::Picks::not_below))]
-fn header_named(receive: u8, receive_con: u8, send: u8, send_con: u8) -> SequenceRead
+fn header_named(
+    receive: u8,
+    receive_con: u8,
+    send: u8,
+    send_con: u8,
+) -> Result<SequenceLayerHeader, Refusal>
     ensures { result ≡ header_named receive receive_con send send_con }
 {
     if 3 < receive_con {
-        return SequenceRead::Refused(Refusal::InvalidEnumValue);
+        return Err(Refusal::InvalidEnumValue);
     }
     if 3 < send_con {
-        return SequenceRead::Refused(Refusal::InvalidEnumValue);
+        return Err(Refusal::InvalidEnumValue);
     }
-    SequenceRead::Header(SequenceLayerHeader {
+    Ok(SequenceLayerHeader {
         receive_sequence_number: receive,
-        receive_con: receive_state(receive_con),
+        receive_con: ReceiveConnState::from(receive_con),
         send_sequence_number: send,
-        send_con: send_state(send_con),
+        send_con: SendConnState::from(send_con),
     })
 }
 
@@ -45,23 +47,20 @@ pub extern "C" fn ostelumiv_sequence_read(buffer: &[u8]) -> SequenceFields
     ensures { result ≡ sequence_fields (sequence_read buffer.now) }
 {
     match SequenceLayerHeader::deserialize(buffer) {
-        SequenceRead::Header(h) => {
+        Ok(h) => {
             let receive_con = h.receive_con;
             let send_con = h.send_con;
             SequenceFields {
                 refusal: 0,
                 receive_sequence_number: h.receive_sequence_number,
-                receive_con: receive_number(receive_con),
+                receive_con: u8::from(receive_con),
                 send_sequence_number: h.send_sequence_number,
-                send_con: send_number(send_con),
+                send_con: u8::from(send_con),
             }
         }
-        SequenceRead::Refused(r) => SequenceFields {
-            refusal: refusal_number(r),
-            receive_sequence_number: 0,
-            receive_con: 0,
-            send_sequence_number: 0,
-            send_con: 0,
+        Err(r) => SequenceFields {
+            refusal: u8::from(r),
+            ..SequenceFields::default()
         },
     }
 }
@@ -84,7 +83,7 @@ pub extern "C" fn ostelumiv_sequence_write(
         send_sequence_number,
         send_con,
     ) {
-        SequenceRead::Header(h) => written_fields(h.serialize(buffer)),
-        SequenceRead::Refused(r) => written_fields(Written::Refused(r)),
+        Ok(h) => written_fields(h.serialize(buffer)),
+        Err(r) => written_fields(Err(r)),
     }
 }

@@ -1,18 +1,21 @@
 -- What a buffer holds after a header or a command was written to it.
-use Prim.Native.Nat.{ℕ, ◌≤◌}
+use Rattle.std.specs.Prelude.{Result, Ok, IsOk}
+use Prim.Native.Nat.{ℕ, ◌+◌, ◌≤◌}
 use native.Mathlib.Omega.{arith}
-use mathlib.Core.Path.{◌≡◌, refl, sym, ◌∙◌}
+use mathlib.Core.Path.{◌≡◌, refl, sym}
 use mathlib.Core.List.{[], ◌++◌, append-nil}
-use lib.ListN.{length, drop, drop_of_length-le}
+use lib.ListN.{length, take, drop, drop_of_length-le}
+use lib.Seq.{take_at}
 use Rattle.laws.proofs.Picks.{within}
-use Rattle.codec.specs.Bytes.{Bytes, part_at}
+use Rattle.codec.specs.Bytes.{Bytes}
 use Rattle.codec.specs.Command.{command_bytes, command_head}
 use Rattle.codec.specs.Writing.{buffer_after, written}
 use Rattle.codec.specs.declared.command.SdoCommand.{SdoCommand}
-use Rattle.codec.proofs.CutParts.{head_short, part_front}
+use Rattle.codec.proofs.CutParts.{head_short}
 use Rattle.codec.proofs.WrittenBytes.{head_length_lem}
-use Rattle.replay_line.specs.Text.{Put, hex}
-use Rattle.replay_line.specs.Types.{Refusal, Written}
+use Rattle.replay_line.specs.Text.{Puts, hex}
+use Rattle.replay_line.specs.Types.{Refusal}
+use Rattle.replay_line.specs.declared.text.Text.{Text}
 use Rattle.replay_line.proofs.PutText.{put_as, puts}
 use Rattle.replay_line.proofs.SpelledDigits.{hex_append}
 
@@ -36,7 +39,7 @@ module _ (c : SdoCommand) where
     head_fits : length (command_head c) ≤ length buffer
     head_fits = let l = head_most in omega arith
 
-    answer : Written.Bytes (length (command_head c)) ≡ written (command_head c) buffer
+    answer : Ok (length (command_head c)) ≡ written (command_head c) buffer
     unfolding written
     answer = within _ _ _ _ head_fits refl
 
@@ -44,20 +47,19 @@ module _ (c : SdoCommand) where
     unfolding buffer_after
     left = within _ _ _ _ head_fits refl
 
-    module _ {w : Written} (e : w ≡ written (command_bytes c []) buffer) where
-      pub never_refused : {r : Refusal} → w ≡ Written.Refused r → ⊥
-      never_refused f = let a = answer in let h = alone in let z : ◌≡◌ {A = ℕ} 0 1 = cc in omega arith
+    module _ {w : Result ℕ Refusal} (e : w ≡ written (command_bytes c []) buffer) where
+      pub head_ok : IsOk w
+      head_ok = rw (e, alone, ← answer)
 
-      pub part_sent : {n : ℕ} {after part : Bytes} → w ≡ Written.Bytes n → after ≡ buffer_after (command_bytes c []) buffer
-          → part ≡ part_at after 0 n → part ≡ command_head c
-      part_sent {n} f g p =
-          let a = answer in
-          let h = alone in
-          let l : n ≡ length (command_head c) = cc in
-          p ∙ rw (g, h, ← left) (part_front (command_head c) (drop (length (command_head c)) buffer) n l)
+      pub head_len : {n : ℕ} → w ≡ Ok n → n ≡ length (command_head c)
+      head_len f = let a = answer in let h = alone in cc
+
+      pub head_sent : {n : ℕ} {after : Bytes} → w ≡ Ok n → after ≡ buffer_after (command_bytes c []) buffer → take n after ≡ command_head c
+      head_sent {n} f g =
+          rw (g, alone, ← left) (take_at (command_head c) (drop (length (command_head c)) buffer) n (sym (head_len f)))
 
 -- the head put in hex, and the payload behind it
-pub command_put : {out first after : Bytes} {at middle end : ℕ} {head : Bytes} (c : SdoCommand) (payload : Bytes) → head ≡ command_head c
-    → Put out at (hex head) first middle → Put first middle (hex payload) after end → Put out at (hex (command_bytes c payload)) after end
+pub command_put : {t m u : Text} {head : Bytes} {j k : ℕ} (c : SdoCommand) (payload : Bytes) → head ≡ command_head c
+    → Puts t (hex head) j m → Puts m (hex payload) k u → Puts t (hex (command_bytes c payload)) (j + k) u
 unfolding command_bytes
 command_put c payload e p q = put_as (rw e (hex_append (command_head c) payload)) (puts p q)

@@ -8,24 +8,35 @@ use mathlib.Core.List.{[], ◌∷◌, ◌++◌, append_assoc, append-nil}
 use lib.ListN.{length, take, drop, set, length-append, take-append-drop}
 use lib.Seq.{append_snoc, drop_at, drop-drop, length-take-le, set_split, take_at}
 use Rattle.codec.specs.Bytes.{Bytes, placed}
-use Rattle.codec.proofs.WrittenBytes.{placed_length}
-use Rattle.replay_line.specs.Text.{Put}
+use Rattle.replay_line.specs.Text.{Puts}
+use Rattle.replay_line.specs.declared.text.Text.{Text}
 
 -- a byte stored is a byte put
-pub put_one : (out : Bytes) (at b : ℕ) → at + 1 ≤ length out → Put out at (b ∷ []) (set out at b) (at + 1)
+pub stored : (out : Bytes) (at b : ℕ) → at + 1 ≤ length out → set out at b ≡ placed out at (b ∷ [])
 unfolding placed
-put_one out at b h =
-    record { bytes = rw (add-one at, append_snoc (take at out) b (drop (suc at) out)) (set_split out at b (omega arith)); ends = refl; fits = h }
+stored out at b h = rw (add-one at, append_snoc (take at out) b (drop (suc at) out)) (set_split out at b (omega arith))
 
 -- nothing put
-pub put_none : (out : Bytes) (at : ℕ) → at ≤ length out → Put out at [] out at
+pub put_none : (t : Text) → t.end ≤ length t.out.now → Puts t [] 0 t
 unfolding placed
-put_none out at h =
-    record { bytes = rw (append-nil (take at out), add-zero) (sym (take-append-drop at out)); ends = omega arith; fits = omega arith }
+put_none t h =
+    record {
+      same_buffer = refl;
+      bytes = rw (append-nil (take t.end t.out.now), add-zero) (sym (take-append-drop t.end t.out.now));
+      ends = omega arith;
+      few = omega arith;
+      fits = omega arith;
+      long = refl;
+    }
 
--- a text by another name
-pub put_as : {out after : Bytes} {at end : ℕ} {text other : Bytes} → text ≡ other → Put out at text after end → Put out at other after end
+-- a text by another name, or of more bytes at most
+pub put_as : {t u : Text} {text other : Bytes} {most : ℕ} → text ≡ other → Puts t text most u → Puts t other most u
 put_as e p = rw (← e) p
+
+pub put_within : {t u : Text} {text : Bytes} {most : ℕ} (more : ℕ) → most ≤ more → Puts t text most u → Puts t text more u
+put_within more h p =
+    let k = p.few in
+    record { same_buffer = p.same_buffer; bytes = p.bytes; ends = p.ends; few = omega arith; fits = p.fits; long = p.long }
 
 -- one text put right behind another
 placed_behind : (out : Bytes) (at : ℕ) (a b : Bytes) → at + length a ≤ length out
@@ -41,18 +52,19 @@ placed_behind out at a b h =
     let k : at + length (a ++ b) ≡ n + length b = rw length-append (omega arith) in
     rw (t, u, k, append_assoc (take at out) a b)
 
--- the bytes are as many as before
-pub put_length : {out after : Bytes} {at end : ℕ} {text : Bytes} → Put out at text after end → length after ≡ length out
-put_length {out} {after} {at} {end} {text} p = ap length p.bytes ∙ placed_length out at text p.fits
-
-pub puts : {out first after : Bytes} {at middle end : ℕ} {a b : Bytes}
-    → Put out at a first middle → Put first middle b after end → Put out at (a ++ b) after end
-puts {out} {first} {after} {at} {middle} {end} {a} {b} p q =
-    let l = put_length p in
-    let m = p.ends in
-    let f = q.fits in
+pub puts : {t m u : Text} {a b : Bytes} {j k : ℕ} → Puts t a j m → Puts m b k u → Puts t (a ++ b) (j + k) u
+puts {t} {m} {u} {a} {b} p q =
+    let e = p.ends in
+    let f = q.ends in
+    let i = p.few in
+    let l = q.few in
+    let x = q.fits in
+    let y = p.long in
     record {
-      bytes = q.bytes ∙ rw (p.bytes, p.ends) (placed_behind out at a b p.fits);
-      ends = q.ends ∙ rw (m, length-append) (omega arith);
+      same_buffer = q.same_buffer ∙ p.same_buffer;
+      bytes = q.bytes ∙ rw (p.bytes, p.ends) (placed_behind t.out.now t.end a b p.fits);
+      ends = rw length-append (omega arith);
+      few = rw length-append (omega arith);
       fits = rw length-append (omega arith);
+      long = q.long ∙ p.long;
     }

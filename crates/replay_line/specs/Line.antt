@@ -1,13 +1,13 @@
 -- A line (document 01, "Replay"): record number, operation, refusal or 0, node sent to, bytes sent in hex (sequence, command), ends as
 -- node:letter:delivered joined by commas; `-` for nothing.
-use Rattle.std.specs.Prelude.{ℕ, min, ◌+◌, ◌≤◌, List, [], ◌∷◌, ◌++◌, ltb, leb, length, get_or, take}
+use Rattle.std.specs.Prelude.{ℕ, min, ◌+◌, ◌≤◌, List, [], ◌∷◌, ◌++◌, ltb, leb, length, get_or, take, Result, Ok, Err}
 use Rattle.laws.specs.Pick.{pick}
 use Rattle.codec.specs.Bytes.{Bytes, placed}
 use Rattle.codec.specs.Command.{command_bytes}
 use Rattle.codec.specs.Refusals.{refusal_number}
 use Rattle.codec.specs.Sequence.{sequence_bytes}
 use Rattle.replay_line.specs.Text.{decimal, hex}
-use Rattle.replay_line.specs.Types.{Answer, End, Ends, Reason, Refusal, SentTo, Written}
+use Rattle.replay_line.specs.Types.{Answer, End, Ends, Reason, Refusal, SentTo}
 
 abbrev pub newline : ℕ
 newline = 10
@@ -94,21 +94,25 @@ unfoldable pub answer_text : Answer → Bytes → Bytes
 answer_text answer output =
     column (refusal_text answer) ++ column (node_text answer) ++ column (sent_text answer output)
 
-unfoldable pub line_of : ℕ → Bytes → Answer → Ends → Bytes → Bytes
-line_of number b answer ends output =
-    record_text number b ++ answer_text answer output ++ ends_text (take ends.count ends.list) ++ (newline ∷ [])
+-- the line of a record by which these ends came
+unfoldable pub line_with : ℕ → Bytes → Answer → List End → Bytes → Bytes
+line_with number b answer ends output =
+    record_text number b ++ answer_text answer output ++ ends_text ends ++ (newline ∷ [])
+
+abbrev pub line_of : ℕ → Bytes → Answer → Ends → Bytes → Bytes
+line_of number b answer ends output = line_with number b answer (take ends.count ends.list) output
 
 -- A line has at most 8,211 bytes, that of a value of 4,096 bytes; where fewer are free from its place on it is refused, and nothing is written.
 abbrev pub most_line : ℕ
 most_line = 8211
 
-abbrev pub Short : Written → Type 0
-Short (Written.Bytes n) = n ≤ most_line
-Short (Written.Refused r) = Unit {0}
+abbrev pub Short : Result ℕ Refusal → Type 0
+Short (Ok n) = n ≤ most_line
+Short (Err r) = Unit {0}
 
-unfoldable pub line_answer : Bytes → ℕ → Bytes → Written
+unfoldable pub line_answer : Bytes → ℕ → Bytes → Result ℕ Refusal
 line_answer out at line =
-    pick (leb (at + most_line) (length out)) (Written.Bytes (length line)) (Written.Refused Refusal.BufferTooShort)
+    pick (leb (at + most_line) (length out)) (Ok (length line)) (Err Refusal.BufferTooShort)
 
 unfoldable pub line_buffer : Bytes → ℕ → Bytes → Bytes
 line_buffer out at line = pick (leb (at + most_line) (length out)) (placed out at line) out

@@ -2,12 +2,20 @@
 use Rattle.std.specs.Prelude.{ℕ, zero, suc, ◌+◌, ◌*◌, ◌/◌, ◌%◌, ◌≤◌, ◌≡◌, [], ◌∷◌, ◌++◌, ltb, length, get_or}
 use Rattle.laws.specs.Pick.{pick}
 use Rattle.codec.specs.Bytes.{Bytes, placed}
+use Rattle.replay_line.specs.declared.text.Text.{Text}
 
--- some text was put at a place: the bytes after it, and where it ends
-pub record Put (before : Bytes) (at : ℕ) (text : Bytes) (after : Bytes) (end : ℕ) : Type 0 where
-  pub bytes : after ≡ placed before at text
-  pub ends : end ≡ at + length text
-  pub fits : at + length text ≤ length before
+-- so many bytes are free behind the text
+abbrev pub Room : Text → ℕ → Type 0
+Room t n = t.end + n ≤ length t.out.now
+
+-- some text, of so many bytes at most, was put behind a text: the bytes after it, and where it ends; the buffer is the same, and as long
+pub record Puts (t : Text) (added : Bytes) (most : ℕ) (u : Text) : Type 0 where
+  pub same_buffer : u.out.ghost_name ≡ t.out.ghost_name
+  pub bytes : u.out.now ≡ placed t.out.now t.end added
+  pub ends : u.end ≡ t.end + length added
+  pub few : length added ≤ most
+  pub fits : t.end + length added ≤ length t.out.now
+  pub long : length u.out.now ≡ length t.out.now
 
 -- ten to the power k
 unfoldable pub power : ℕ → ℕ

@@ -1,12 +1,13 @@
 -- A line of `values`, the bench tool for document 02's CR 1: record number, node, object as INDEX:SUB in hex, data in hex; `-` for none. A record has one
 -- where it ends a read Complete, and else no text.
-use Rattle.std.specs.Prelude.{ℕ, ◌/◌, ◌%◌, [], ◌∷◌, ◌++◌, get_or, take}
+use Rattle.std.specs.Prelude.{ℕ, ◌/◌, ◌%◌, [], ◌∷◌, ◌++◌, get_or, take, Option, Some, None}
+use Rattle.codec.specs.declared.request.ReadByIndexRequest.{ReadByIndexRequest}
 use Rattle.codec.specs.Bytes.{Bytes}
 use Rattle.man_table.specs.Table.{room_size}
 use Rattle.man_value.specs.Value.{value_in}
 use Rattle.replay_line.specs.Line.{byte_text, colon, column, newline, nothing, number_text}
 use Rattle.replay_line.specs.Text.{hex}
-use Rattle.replay_line.specs.Types.{Answer, PendingRead}
+use Rattle.replay_line.specs.Types.{Answer}
 
 -- record number and node
 unfoldable pub place_text : ℕ → ℕ → Bytes
@@ -29,11 +30,11 @@ node_of b = get_or b 1 0
 
 -- What a record's answer shows, where its node's job read an object: the bytes that the thin call hands out. No value has more than 4,096 (theorems'
 -- `ValuesWithin`); no more are shown of any manager.
-abbrev pub read_line : PendingRead → ℕ → ℕ → Bytes → Bytes
-read_line (PendingRead.Read index sub) number node value = value_line number node index sub (take room_size value)
-read_line PendingRead.NoRead number node value = []
+abbrev pub read_line : Option ReadByIndexRequest → ℕ → ℕ → Bytes → Bytes
+read_line (Some q) number node value = value_line number node q.index q.sub_index (take room_size value)
+read_line None number node value = []
 
-abbrev pub value_text : ℕ → Bytes → PendingRead → Answer → Bytes → Bytes
+abbrev pub value_text : ℕ → Bytes → Option ReadByIndexRequest → Answer → Bytes → Bytes
 value_text number b object Answer.Nothing store = []
 value_text number b object (Answer.Sent s) store = []
 value_text number b object (Answer.Value part) store = read_line object number (node_of b) (value_in store part)

@@ -1,5 +1,5 @@
 // A line of the replay: record number, operation, refusal or 0, node sent to, bytes sent in hex, ends; `-` for nothing.
-ghost use Rattle.std.specs.Prelude.{◌≡◌, ◌+◌, ◌≤◌, length, take};
+ghost use Rattle.std.specs.Prelude.{◌≡◌, ◌+◌, ◌*◌, ◌≤◌, length, take, leb, Ok, Err};
 ghost use Rattle.replay_line.specs.Line.{
   letter as letter_of,
   operation_text,
@@ -8,25 +8,27 @@ ghost use Rattle.replay_line.specs.Line.{
   sent_payload,
   sent_text,
   end_text,
+  further_ends,
   ends_text,
   record_text,
   answer_text,
+  line_with,
   line_of,
+  most_line,
   Short,
   line_answer,
   line_buffer,
 };
 ghost use Rattle.codec.specs.Command.{command_bytes};
 ghost use Rattle.codec.specs.Sequence.{sequence_bytes};
-ghost use Rattle.replay_line.specs.Text.{Put, hex};
+ghost use Rattle.replay_line.specs.Text.{Puts, Room, hex};
 ghost use Rattle.man_table.specs.Sweep.{no_ends};
+ghost use Rattle.laws.specs.Pick.{pick};
 
-use crate::text::{put_byte, put_decimal, put_hex};
+use crate::text::Text;
 use codec::command::SdoCommand;
-use codec::octets::part;
-use codec::refusal::{Refusal, refusal_number};
-use codec::sequence::{SequenceLayerHeader, Written};
-use con_rec::numbers::at_most;
+use codec::refusal::Refusal;
+use codec::sequence::SequenceLayerHeader;
 use con_rec::{End, Reason};
 use man_table::types::Ends;
 use manager::types::{Answer, OUTPUT_SIZE, SentTo};
@@ -48,68 +50,57 @@ fn letter(r: Reason) -> u8
     }
 }
 
-fn put_operation(out: &mut [u8], at: usize, b: &[u8]) -> usize
-    requires { at + 3 ≤ length out.old }
-    ensures put { Put out.old at (operation_text b.now) out.new result }
-    ensures upper_bound { result ≤ at + 3 }
+// The operation, or `-` for a record of under 32 bytes.
+fn put_operation(text: &mut Text, b: &[u8])
+    requires { Room text.old 3 }
+    ensures { Puts text.old (operation_text b.now) 3 text.new }
 {
     if b.len() < 32 {
-        return put_byte(out, at, b'-');
+        return text.byte(b'-');
     }
-    put_decimal(out, at, b[0] as u32, 2, 100)
+    text.decimal(b[0] as u32, 2)
 }
 
-fn put_refusal(out: &mut [u8], at: usize, answer: Answer) -> usize
-    requires { at + 3 ≤ length out.old }
-    ensures put { Put out.old at (refusal_text answer) out.new result }
-    ensures upper_bound { result ≤ at + 3 }
+fn put_refusal(text: &mut Text, answer: Answer)
+    requires { Room text.old 3 }
+    ensures { Puts text.old (refusal_text answer) 3 text.new }
 {
     match answer {
-        Answer::Nothing => return put_decimal(out, at, 0, 2, 100),
-        Answer::Sent(_) => return put_decimal(out, at, 0, 2, 100),
-        Answer::Value(_) => return put_decimal(out, at, 0, 2, 100),
-        Answer::Refused(r) => return put_decimal(out, at, refusal_number(r) as u32, 2, 100),
+        Answer::Refused(r) => text.decimal(u8::from(r) as u32, 2),
+        _ => text.decimal(0, 2),
     }
 }
 
-fn put_node(out: &mut [u8], at: usize, answer: Answer) -> usize
-    requires { at + 3 ≤ length out.old }
-    ensures put { Put out.old at (node_text answer) out.new result }
-    ensures upper_bound { result ≤ at + 3 }
+fn put_node(text: &mut Text, answer: Answer)
+    requires { Room text.old 3 }
+    ensures { Puts text.old (node_text answer) 3 text.new }
 {
     match answer {
-        Answer::Nothing => return put_byte(out, at, b'-'),
-        Answer::Sent(s) => return put_decimal(out, at, s.node as u32, 2, 100),
-        Answer::Value(_) => return put_byte(out, at, b'-'),
-        Answer::Refused(_) => return put_byte(out, at, b'-'),
+        Answer::Sent(s) => text.decimal(s.node as u32, 2),
+        _ => text.byte(b'-'),
     }
 }
 
-fn put_sequence(out: &mut [u8], at: usize, h: SequenceLayerHeader) -> usize
-    requires { at + 8 ≤ length out.old }
-    ensures put { Put out.old at (hex (sequence_bytes h)) out.new result }
-    ensures value { result ≡ at + 8 }
+fn put_sequence(text: &mut Text, h: SequenceLayerHeader)
+    requires { Room text.old 8 }
+    ensures { Puts text.old (hex (sequence_bytes h)) 8 text.new }
 {
     let mut bytes = [0u8; 4];
-    h.serialize(&mut bytes);
-    put_hex(out, at, &bytes)
+    let _ = h.serialize(&mut bytes);
+    text.hex(&bytes);
 }
 
 // At most 1,464 bytes: 12 before the payload, and 1,452 of it.
-fn put_command(out: &mut [u8], at: usize, c: SdoCommand, payload: &[u8]) -> usize
-    requires at_in_bounds { at + 2928 ≤ length out.old }
+fn put_command(text: &mut Text, c: SdoCommand, payload: &[u8])
+    requires room { Room text.old 2928 }
     requires payload_len_bound { length payload.now ≤ 1452 }
-    ensures put { Put out.old at (hex (command_bytes c payload.now)) out.new result }
-    ensures upper_bound { result ≤ at + 2928 }
+    ensures { Puts text.old (hex (command_bytes c payload.now)) 2928 text.new }
 {
-    let none = [0u8; 0];
     let mut head = [0u8; 12];
-    let Written::Bytes(n) = c.serialize(&none, &mut head) else {
-        // never: 12 bytes fit
-        return at;
-    };
-    let end = put_hex(out, at, part(&head, 0, n));
-    put_hex(out, end, payload)
+    // 12 bytes fit
+    let n = c.serialize(&[], &mut head).unwrap();
+    text.hex(&head[..n]);
+    text.hex(payload);
 }
 
 fn payload_of(s: SentTo, output: &[u8]) -> &[u8]
@@ -118,88 +109,115 @@ fn payload_of(s: SentTo, output: &[u8]) -> &[u8]
 {
     let command = s.command;
     let header = command.header;
-    let most = at_most(header.segment_size as usize, OUTPUT_SIZE);
-    if output.len() < most {
-        return output;
-    }
-    part(output, 0, most)
+    let most = (header.segment_size as usize).min(OUTPUT_SIZE);
+    &output[..most.min(output.len())]
 }
 
-fn put_sent(out: &mut [u8], at: usize, answer: Answer, output: &[u8]) -> usize
-    requires { at + 2936 ≤ length out.old }
-    ensures put { Put out.old at (sent_text answer output.now) out.new result }
-    ensures upper_bound { result ≤ at + 2936 }
+fn put_sent(text: &mut Text, answer: Answer, output: &[u8])
+    requires { Room text.old 2936 }
+    ensures { Puts text.old (sent_text answer output.now) 2936 text.new }
 {
     match answer {
-        Answer::Nothing => return put_byte(out, at, b'-'),
         Answer::Sent(s) => {
             let sequence = s.sequence;
             let command = s.command;
-            let end = put_sequence(out, at, sequence);
-            return put_command(out, end, command, payload_of(s, output));
+            put_sequence(text, sequence);
+            put_command(text, command, payload_of(s, output))
         }
-        Answer::Value(_) => return put_byte(out, at, b'-'),
-        Answer::Refused(_) => return put_byte(out, at, b'-'),
+        _ => text.byte(b'-'),
     }
 }
 
-fn put_end(out: &mut [u8], at: usize, e: End) -> usize
-    requires { at + 16 ≤ length out.old }
-    ensures put { Put out.old at (end_text e) out.new result }
-    ensures upper_bound { result ≤ at + 16 }
+fn put_end(text: &mut Text, e: End)
+    requires { Room text.old 16 }
+    ensures { Puts text.old (end_text e) 16 text.new }
 {
     let reason = e.reason;
-    let node = put_decimal(out, at, e.node as u32, 2, 100);
-    let first = put_byte(out, node, b':');
-    let why = put_byte(out, first, letter(reason));
-    let second = put_byte(out, why, b':');
-    put_decimal(out, second, e.delivered, 9, 1000000000)
+    text.decimal(e.node as u32, 2);
+    text.byte(b':');
+    text.byte(letter(reason));
+    text.byte(b':');
+    text.decimal(e.delivered, 9);
 }
 
-fn put_ends(out: &mut [u8], at: usize, ends: Ends) -> usize
-    requires { at + 136 ≤ length out.old }
-    ensures put { Put out.old at (ends_text (take ends.count ends.list)) out.new result }
-    ensures upper_bound { result ≤ at + 136 }
+fn put_further(text: &mut Text, ends: &[End])
+    requires { Room text.old (17 * length ends.now) }
+    ensures { Puts text.old (further_ends ends.now) (17 * length ends.now) text.new }
 {
-    let n = at_most(ends.count, 8);
-    if n == 0 {
-        return put_byte(out, at, b'-');
+    for e in ends {
+        text.byte(b',');
+        put_end(text, *e);
     }
-    let list = ends.list;
-    let mut end = put_end(out, at, list[0]);
-    let mut i: usize = 1;
-    while i < n {
-        end = put_byte(out, end, b',');
-        end = put_end(out, end, list[i]);
-        i += 1;
+}
+
+fn put_ends(text: &mut Text, ends: &[End])
+    requires room { Room text.old 136 }
+    requires ends_len_bound { length ends.now ≤ 8 }
+    ensures { Puts text.old (ends_text ends.now) 136 text.new }
+{
+    if ends.is_empty() {
+        return text.byte(b'-');
     }
-    end
+    put_end(text, ends[0]);
+    put_further(text, &ends[1..])
 }
 
 // Record number and operation, each with a space behind it.
-fn put_record(out: &mut [u8], at: usize, number: u16, b: &[u8]) -> usize
-    requires { at + 10 ≤ length out.old }
-    ensures put { Put out.old at (record_text number b.now) out.new result }
-    ensures upper_bound { result ≤ at + 10 }
+fn put_record(text: &mut Text, number: u16, b: &[u8])
+    requires { Room text.old 10 }
+    ensures { Puts text.old (record_text number b.now) 10 text.new }
 {
-    let first = put_decimal(out, at, number as u32, 4, 10000);
-    let second = put_byte(out, first, b' ');
-    let third = put_operation(out, second, b);
-    put_byte(out, third, b' ')
+    text.decimal(number as u32, 4);
+    text.byte(b' ');
+    put_operation(text, b);
+    text.byte(b' ');
 }
 
 // Refusal, node and bytes sent, each with a space behind it.
-fn put_answer(out: &mut [u8], at: usize, answer: Answer, output: &[u8]) -> usize
-    requires { at + 2945 ≤ length out.old }
-    ensures put { Put out.old at (answer_text answer output.now) out.new result }
-    ensures upper_bound { result ≤ at + 2945 }
+fn put_answer(text: &mut Text, answer: Answer, output: &[u8])
+    requires { Room text.old 2945 }
+    ensures { Puts text.old (answer_text answer output.now) 2945 text.new }
 {
-    let refusal = put_refusal(out, at, answer);
-    let first = put_byte(out, refusal, b' ');
-    let node = put_node(out, first, answer);
-    let second = put_byte(out, node, b' ');
-    let sent = put_sent(out, second, answer, output);
-    put_byte(out, sent, b' ')
+    put_refusal(text, answer);
+    text.byte(b' ');
+    put_node(text, answer);
+    text.byte(b' ');
+    put_sent(text, answer, output);
+    text.byte(b' ');
+}
+
+// Refuses a place from which on fewer than 8,211 bytes are free. A line never has more.
+pub(crate) fn room(out: &[u8], at: usize) -> Result<(), Refusal>
+    ensures { result ≡ pick (leb (at + most_line) (length out.now)) (Ok tt) (Err Refusal.BufferTooShort) }
+{
+    if out.len().saturating_sub(at) < MOST_LINE {
+        return Err(Refusal::BufferTooShort);
+    }
+    Ok(())
+}
+
+// The line of a record by which these ends came.
+fn write_with(
+    out: &mut [u8],
+    at: usize,
+    number: u16,
+    b: &[u8],
+    answer: Answer,
+    ends: &[End],
+    output: &[u8],
+) -> Result<usize, Refusal>
+    requires { length ends.now ≤ 8 }
+    ensures value { result ≡ line_answer out.old at (line_with number b.now answer ends.now output.now) }
+    ensures out_after { out.new ≡ line_buffer out.old at (line_with number b.now answer ends.now output.now) }
+    ensures short { Short result }
+{
+    room(out, at)?;
+    let mut text = Text { out, end: at };
+    put_record(&mut text, number, b);
+    put_answer(&mut text, answer, output);
+    put_ends(&mut text, ends);
+    text.byte(b'\n');
+    Ok(text.end - at)
 }
 
 // Writes a record's line at a place of the text, and leaves the rest as it was; 1, and nothing is written, where fewer than 8,211 bytes
@@ -212,22 +230,13 @@ pub fn write_line(
     answer: Answer,
     ends: Ends,
     output: &[u8],
-) -> Written
+) -> Result<usize, Refusal>
     ensures value { result ≡ line_answer out.old at (line_of number b.now answer ends output.now) }
     ensures out_after { out.new ≡ line_buffer out.old at (line_of number b.now answer ends output.now) }
     ensures short { Short result }
 {
-    if out.len() < at {
-        return Written::Refused(Refusal::BufferTooShort);
-    }
-    if out.len() - at < MOST_LINE {
-        return Written::Refused(Refusal::BufferTooShort);
-    }
-    let first = put_record(out, at, number, b);
-    let second = put_answer(out, first, answer, output);
-    let third = put_ends(out, second, ends);
-    let end = put_byte(out, third, b'\n');
-    Written::Bytes(end - at)
+    let n = ends.count.min(8);
+    write_with(out, at, number, b, answer, &ends.list[..n], output)
 }
 
 // Writes the line of a record by which nothing ended, as write_line does.
@@ -238,20 +247,10 @@ pub fn write_quiet_line(
     b: &[u8],
     answer: Answer,
     output: &[u8],
-) -> Written
+) -> Result<usize, Refusal>
     ensures value { result ≡ line_answer out.old at (line_of number b.now answer no_ends output.now) }
     ensures out_after { out.new ≡ line_buffer out.old at (line_of number b.now answer no_ends output.now) }
     ensures short { Short result }
 {
-    if out.len() < at {
-        return Written::Refused(Refusal::BufferTooShort);
-    }
-    if out.len() - at < MOST_LINE {
-        return Written::Refused(Refusal::BufferTooShort);
-    }
-    let first = put_record(out, at, number, b);
-    let second = put_answer(out, first, answer, output);
-    let third = put_byte(out, second, b'-');
-    let end = put_byte(out, third, b'\n');
-    Written::Bytes(end - at)
+    write_with(out, at, number, b, answer, &[], output)
 }

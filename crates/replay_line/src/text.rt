@@ -1,77 +1,87 @@
-// Text put into bytes: a byte, a number in decimal, bytes in hex. Each function answers where its text ends.
-ghost use Rattle.std.specs.Prelude.{◌≡◌, [], ◌∷◌, ◌+◌, ◌*◌, ◌/◌, ◌%◌, ◌≤◌, ◌<◌, length, get_or};
-ghost use Rattle.replay_line.specs.Text.{Put, power, decimal, hex, hex_digits};
+// Text put behind a text: a byte, a number in decimal, bytes in hex.
+ghost use Rattle.std.specs.Prelude.{◌≡◌, [], ◌∷◌, ◌+◌, ◌*◌, ◌%◌, ◌≤◌, ◌<◌, length, get_or};
+ghost use Rattle.replay_line.specs.Text.{Puts, Room, decimal, digit, front, hex, hex_digits, power};
 
-const HEX_DIGITS: [u8; 16] = [
-    48, 49, 50, 51, 52, 53, 54, 55, 56, 57, 65, 66, 67, 68, 69, 70,
+const HEX_DIGITS: [u8; 16] = *b"0123456789ABCDEF";
+
+// The powers of ten that a u32 reaches.
+const POWERS: [u32; 10] = [
+    1, 10, 100, 1000, 10000, 100000, 1000000, 10000000, 100000000, 1000000000,
 ];
 
-pub(crate) fn put_byte(out: &mut [u8], at: usize, b: u8) -> usize
-    requires { at + 1 ≤ length out.old }
-    ensures put { Put out.old at (b ∷ []) out.new result }
-    ensures value { result ≡ at + 1 }
-{
-    out[at] = b;
-    at + 1
+// A buffer, and where the text in it ends.
+#[derive(Drop)]
+pub(crate) struct Text<'a> {
+    pub out: &'a mut [u8],
+    pub end: usize,
 }
 
-fn digit_of(d: u32) -> u8
-    requires { d < 10 }
-    ensures { result ≡ 48 + d }
+#[tactic(auto, unfolding(crate::specs::Text::hex_digits))]
+fn hex_digit(n: u8) -> u8
+    requires { n < 16 }
+    ensures { result ≡ get_or hex_digits n 0 }
 {
-    48 + d as u8
+    HEX_DIGITS[n as usize]
 }
 
-// A number of up to places + 1 digits, without zeros in front; p is ten to the power places.
-pub(crate) fn put_decimal(out: &mut [u8], at: usize, n: u32, places: usize, p: u32) -> usize
-    requires places_in_bounds { at + places + 1 ≤ length out.old }
-    requires p_value { p ≡ power places }
-    ensures put { Put out.old at (decimal places n) out.new result }
-    ensures upper_bound { result ≤ at + places + 1 }
+fn digit_of(n: u32) -> u8
+    ensures { result ≡ digit (n % 10) }
 {
-    if n < 10 {
-        // one digit needs no loop
-        return put_byte(out, at, digit_of(n));
+    48 + (n % 10) as u8
+}
+
+fn power_of(k: usize) -> u32
+    requires { k < 10 }
+    ensures { result ≡ power k }
+{
+    POWERS[k]
+}
+
+impl Text<'_> {
+    pub(crate) fn byte(&mut self, b: u8)
+        requires { Room self.old 1 }
+        ensures { Puts self.old (b ∷ []) 1 self.new }
+    {
+        self.out[self.end] = b;
+        self.end += 1;
     }
-    let mut end = at;
-    let mut k = places;
-    let mut rest = p;
-    while 0 < k {
-        let q = rest;
-        rest /= 10;
-        k -= 1;
-        if n < q {
-            continue;
+
+    // A number of up to places + 1 digits, without zeros in front.
+    pub(crate) fn decimal(&mut self, n: u32, places: usize)
+        requires room { Room self.old (places + 1) }
+        requires places_in_bounds { places < 10 }
+        ensures { Puts self.old (decimal places n) (places + 1) self.new }
+    {
+        if n < 10 {
+            // one digit needs no loop
+            return self.byte(digit_of(n));
         }
-        end = put_byte(out, end, digit_of(n / q % 10));
+        self.front(n, places);
+        self.byte(digit_of(n))
     }
-    put_byte(out, end, digit_of(n % 10))
-}
 
-fn high(b: u8) -> u8
-    ensures { result ≡ get_or hex_digits (b / 16) 0 }
-{
-    HEX_DIGITS[(b / 16) as usize]
-}
-
-fn low(b: u8) -> u8
-    ensures { result ≡ get_or hex_digits (b % 16) 0 }
-{
-    HEX_DIGITS[(b % 16) as usize]
-}
-
-pub(crate) fn put_hex(out: &mut [u8], at: usize, bytes: &[u8]) -> usize
-    requires { at + 2 * length bytes.now ≤ length out.old }
-    ensures put { Put out.old at (hex bytes.now) out.new result }
-    ensures value { result ≡ at + 2 * length bytes.now }
-{
-    let mut end = at;
-    let mut i: usize = 0;
-    while i < bytes.len() {
-        let b = bytes[i];
-        i += 1;
-        end = put_byte(out, end, high(b));
-        end = put_byte(out, end, low(b));
+    // The digits before the last.
+    fn front(&mut self, n: u32, places: usize)
+        requires room { Room self.old places }
+        requires places_in_bounds { places < 10 }
+        ensures { Puts self.old (front places n) places self.new }
+    {
+        for i in 0..places {
+            let p = power_of(places - i);
+            if n < p {
+                continue;
+            }
+            self.byte(digit_of(n / p));
+        }
     }
-    end
+
+    pub(crate) fn hex(&mut self, bytes: &[u8])
+        requires { Room self.old (2 * length bytes.now) }
+        ensures { Puts self.old (hex bytes.now) (2 * length bytes.now) self.new }
+    {
+        for b in bytes {
+            self.byte(hex_digit(*b / 16));
+            self.byte(hex_digit(*b % 16));
+        }
+    }
 }

@@ -1,145 +1,93 @@
 // A line of values: record number, node, object, data; one for a record that ends a read Complete.
 ghost use Rattle.std.specs.Prelude.{◌≡◌, ◌+◌, ◌≤◌, length};
 ghost use Rattle.replay_line.specs.Line.{Short, line_answer, line_buffer};
-ghost use Rattle.replay_line.specs.Text.{Put};
-ghost use Rattle.replay_line.specs.Value.{place_text, object_text, data_text, value_line, node_of, read_line, value_text};
+ghost use Rattle.replay_line.specs.Text.{Puts, Room};
+ghost use Rattle.replay_line.specs.Value.{place_text, object_text, data_text, value_line, node_of, value_text};
 
-use crate::line::MOST_LINE;
-use crate::text::{put_byte, put_decimal, put_hex};
+use crate::line::room;
+use crate::text::Text;
 use codec::refusal::Refusal;
-use codec::sequence::Written;
-use con_rec::PendingRead;
+use codec::request::ReadByIndexRequest;
 use con_rec::payload::clip;
 use man_table::types::ROOM_SIZE;
 use man_value::value_in;
 use manager::types::Answer;
 
 // The object, as INDEX:SUB.
-fn put_object(out: &mut [u8], at: usize, index: u16, sub_index: u8) -> usize
-    requires { at + 7 ≤ length out.old }
-    ensures put { Put out.old at (object_text index sub_index) out.new result }
-    ensures value { result ≡ at + 7 }
+fn put_object(text: &mut Text, index: u16, sub_index: u8)
+    requires { Room text.old 7 }
+    ensures { Puts text.old (object_text index sub_index) 7 text.new }
 {
-    let first = [(index / 256) as u8, (index % 256) as u8];
-    let second = [sub_index];
-    let colon = put_hex(out, at, &first);
-    let sub = put_byte(out, colon, b':');
-    put_hex(out, sub, &second)
+    text.hex(&[(index / 256) as u8, (index % 256) as u8]);
+    text.byte(b':');
+    text.hex(&[sub_index]);
 }
 
 // The data in hex, or `-` for none.
-fn put_data(out: &mut [u8], at: usize, bytes: &[u8]) -> usize
-    requires at_in_bounds { at + 8192 ≤ length out.old }
+fn put_data(text: &mut Text, bytes: &[u8])
+    requires room { Room text.old 8192 }
     requires bytes_len_bound { length bytes.now ≤ 4096 }
-    ensures put { Put out.old at (data_text bytes.now) out.new result }
-    ensures upper_bound { result ≤ at + 8192 }
+    ensures { Puts text.old (data_text bytes.now) 8192 text.new }
 {
-    if bytes.len() == 0 {
-        return put_byte(out, at, b'-');
+    if bytes.is_empty() {
+        return text.byte(b'-');
     }
-    put_hex(out, at, bytes)
+    text.hex(bytes)
 }
 
 // Record number and node, each with a space behind it.
-fn put_place(out: &mut [u8], at: usize, number: u16, node: u8) -> usize
-    requires { at + 10 ≤ length out.old }
-    ensures put { Put out.old at (place_text number node) out.new result }
-    ensures upper_bound { result ≤ at + 10 }
+fn put_place(text: &mut Text, number: u16, node: u8)
+    requires { Room text.old 10 }
+    ensures { Puts text.old (place_text number node) 10 text.new }
 {
-    let first = put_decimal(out, at, number as u32, 4, 10000);
-    let second = put_byte(out, first, b' ');
-    let third = put_decimal(out, second, node as u32, 2, 100);
-    put_byte(out, third, b' ')
+    text.decimal(number as u32, 4);
+    text.byte(b' ');
+    text.decimal(node as u32, 2);
+    text.byte(b' ');
 }
 
 // A value's line.
-fn put_line(
-    out: &mut [u8],
-    at: usize,
-    number: u16,
-    node: u8,
-    index: u16,
-    sub_index: u8,
-    bytes: &[u8],
-) -> usize
-    requires at_in_bounds { at + 8211 ≤ length out.old }
+fn put_line(text: &mut Text, number: u16, node: u8, q: ReadByIndexRequest, bytes: &[u8])
+    requires room { Room text.old 8211 }
     requires bytes_len_bound { length bytes.now ≤ 4096 }
-    ensures put { Put out.old at (value_line number node index sub_index bytes.now) out.new result }
-    ensures upper_bound { result ≤ at + 8211 }
+    ensures { Puts text.old (value_line number node q.index q.sub_index bytes.now) 8211 text.new }
 {
-    let place = put_place(out, at, number, node);
-    let object = put_object(out, place, index, sub_index);
-    let space = put_byte(out, object, b' ');
-    let end = put_data(out, space, bytes);
-    put_byte(out, end, b'\n')
-}
-
-// The line where the node's job read an object, of 4,096 bytes at most, which no value passes; no text where it did not.
-fn put_read(
-    out: &mut [u8],
-    at: usize,
-    object: PendingRead,
-    number: u16,
-    node: u8,
-    bytes: &[u8],
-) -> usize
-    requires { at + 8211 ≤ length out.old }
-    ensures put { Put out.old at (read_line object number node bytes.now) out.new result }
-    ensures upper_bound { result ≤ at + 8211 }
-{
-    match object {
-        PendingRead::Read { index, sub_index } => {
-            return put_line(
-                out,
-                at,
-                number,
-                node,
-                index,
-                sub_index,
-                clip(bytes, 0, ROOM_SIZE),
-            );
-        }
-        PendingRead::NoRead => return at,
-    }
+    put_place(text, number, node);
+    put_object(text, q.index, q.sub_index);
+    text.byte(b' ');
+    put_data(text, bytes);
+    text.byte(b'\n');
 }
 
 // The node that a record is for; 0 for a record of under 2 bytes.
 pub fn node_of(b: &[u8]) -> u8
     ensures { result ≡ node_of b.now }
 {
-    if b.len() < 2 {
-        return 0;
-    }
-    b[1]
+    b.get(1).copied().unwrap_or(0)
 }
 
-// The value of an answer that has one; for any other there is no text.
+// The value of an answer that has one, where the node's job read an object, of 4,096 bytes at most, which no value passes; no text for any other.
 fn put_value(
-    out: &mut [u8],
-    at: usize,
+    text: &mut Text,
     number: u16,
     b: &[u8],
-    object: PendingRead,
+    object: Option<ReadByIndexRequest>,
     answer: Answer,
     store: &[u8],
-) -> usize
-    requires { at + 8211 ≤ length out.old }
-    ensures put { Put out.old at (value_text number b.now object answer store.now) out.new result }
-    ensures upper_bound { result ≤ at + 8211 }
+)
+    requires { Room text.old 8211 }
+    ensures { Puts text.old (value_text number b.now object answer store.now) 8211 text.new }
 {
-    match answer {
-        Answer::Nothing => return at,
-        Answer::Sent(_) => return at,
-        Answer::Value(part) => return put_read(
-            out,
-            at,
-            object,
-            number,
-            node_of(b),
-            value_in(store, part),
-        ),
-        Answer::Refused(_) => return at,
-    }
+    let (Answer::Value(part), Some(q)) = (answer, object) else {
+        return;
+    };
+    put_line(
+        text,
+        number,
+        node_of(b),
+        q,
+        clip(value_in(store, part), 0, ROOM_SIZE),
+    )
 }
 
 // Writes the line of the value that a record's reply answered at a place of the text, and leaves the rest as it was; for any other answer there is no
@@ -149,20 +97,16 @@ pub fn write_value(
     at: usize,
     number: u16,
     b: &[u8],
-    object: PendingRead,
+    object: Option<ReadByIndexRequest>,
     answer: Answer,
     store: &[u8],
-) -> Written
+) -> Result<usize, Refusal>
     ensures value { result ≡ line_answer out.old at (value_text number b.now object answer store.now) }
     ensures out_after { out.new ≡ line_buffer out.old at (value_text number b.now object answer store.now) }
     ensures short { Short result }
 {
-    if out.len() < at {
-        return Written::Refused(Refusal::BufferTooShort);
-    }
-    if out.len() - at < MOST_LINE {
-        return Written::Refused(Refusal::BufferTooShort);
-    }
-    let end = put_value(out, at, number, b, object, answer, store);
-    Written::Bytes(end - at)
+    room(out, at)?;
+    let mut text = Text { out, end: at };
+    put_value(&mut text, number, b, object, answer, store);
+    Ok(text.end - at)
 }

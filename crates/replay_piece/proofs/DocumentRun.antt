@@ -14,7 +14,7 @@ use Rattle.manager.specs.Calls.{called, reply_from, seat_in, start_of, turn_of}
 use Rattle.manager.specs.Change.{change_done, entered_at, number_after}
 use Rattle.man_table.specs.Table.{free_room, target_of}
 use Rattle.man_table.specs.Walk.{walk_of}
-use Rattle.replay_line.specs.Line.{answer_text, end_text, line_of, operation_text, record_text}
+use Rattle.replay_line.specs.Line.{answer_text, end_text, line_with, operation_text, record_text}
 use Rattle.replay_line.specs.Text.{decimal, front, hex, hex_digits, power}
 use Rattle.replay_line.specs.Value.{object_text, place_text, value_line}
 use Rattle.replay_record.specs.Gather.{gathered_with, more_gathered}
@@ -26,7 +26,7 @@ use Rattle.replay_piece.specs.Whole.{first, lines_from, next}
 pub as_document : AsDocument
 unfolding pick among placed part_at command_bytes command_head walk_of dcf_step buffer_after ask_of given deadline_of reply_of room_for start_dcf start_read start_write
     started tick_of reply_from seat_in start_of target_of turn_of free_room called change_done entered_at number_after
-    answer_text end_text line_of operation_text record_text decimal front hex hex_digits power gathered_with more_gathered operation_of record_read record_asks
+    answer_text end_text line_with operation_text record_text decimal front hex hex_digits power gathered_with more_gathered operation_of record_read record_asks
     first lines_from next AsDocument
 as_document = (refl, refl, refl)
 

@@ -1,4 +1,5 @@
 -- A line has room where 8,211 bytes of the text are free.
+use Rattle.std.specs.Prelude.{Result, Ok, IsOk}
 use Prim.Native.Nat.{ℕ, ◌+◌, ◌≤◌}
 use native.Mathlib.Omega.{arith}
 use mathlib.Core.Path.{◌≡◌, refl, sym, ap, subst, ◌∙◌}
@@ -7,18 +8,18 @@ use Rattle.laws.proofs.Picks.{within}
 use Rattle.codec.proofs.WrittenBytes.{placed_length}
 use Rattle.codec.specs.Bytes.{Bytes, placed}
 use Rattle.replay_line.specs.Line.{Short, line_answer, line_buffer, most_line}
-use Rattle.replay_piece.specs.Types.{Refusal, Written}
+use Rattle.replay_piece.specs.Types.{Refusal}
 
-module _ (text : Bytes) (at : ℕ) (line : Bytes) (room : at + most_line ≤ length text) (w : Written) (e : w ≡ line_answer text at line) where
+module _ (text : Bytes) (at : ℕ) (line : Bytes) (room : at + most_line ≤ length text) (w : Result ℕ Refusal) (e : w ≡ line_answer text at line) where
   -- it is written
-  as_written_lem : w ≡ Written.Bytes (length line)
+  as_written_lem : w ≡ Ok (length line)
   unfolding line_answer
   as_written_lem = e ∙ sym (within _ _ _ _ room refl)
 
-  pub never_refused : (r : Refusal) → w ≡ Written.Refused r → ⊥
-  never_refused r f = let z : ◌≡◌ {A = ℕ} 0 1 = cc (as_written_lem, f) in absurd (omega arith)
+  pub has_room : IsOk w
+  has_room = rw as_written_lem
 
-  module _ {n : ℕ} (f : w ≡ Written.Bytes n) (s : Short w) where
+  module _ {n : ℕ} (f : w ≡ Ok n) (s : Short w) where
     same : n ≡ length line
     same = cc (as_written_lem, f)
 

@@ -1,13 +1,17 @@
 -- One record: by a plan that moves the manager, and in place.
-use Prim.Native.Nat.{ℕ, min, ◌+◌, ◌-◌, ◌<◌, ◌≤◌}
+use Rattle.std.specs.Prelude.{Option, Some, None}
+use Rattle.con_rec.specs.declared.SdoClientConnection.{SdoClientConnection}
+use Rattle.con_rec.specs.declared.Reason.{Reason}
+use Prim.Native.Nat.{ℕ, min, ◌+◌, ◌<◌, ◌≤◌}
 use native.Mathlib.Omega.{arith}
 use mathlib.Core.Path.{◌≡◌, refl, sym, ap, subst, ◌∙◌}
 use mathlib.Core.Bool.{Bool, true, false}
+use mathlib.Core.List.{◌++◌}
 use lib.Dec.{eqb, ltb}
 use lib.ListN.{length, length-take, set}
 use borrow.Author.Tests.{eq-eqb, le-ltb, lt-ltb, ne_eqb}
 use Rattle.laws.specs.Pick.{pick}
-use Rattle.codec.specs.Bytes.{Bytes, part_at, placed}
+use Rattle.codec.specs.Bytes.{Bytes, placed}
 use Rattle.con_rec.specs.Record.{end_with}
 use Rattle.man_table.specs.Sweep.{end_here, no_ends}
 use Rattle.man_table.specs.Table.{live}
@@ -22,14 +26,13 @@ use Rattle.theorems.proofs.Neat.{call_neat}
 use Rattle.replay_record.proofs.RecordPlan.{plan_grants}
 use Rattle.replay_record.specs.Request.{Asked, AskedPlan, Request, answers, asked_plan, calls, granted, record_asks}
 use Rattle.replay_piece.specs.Moves.{entry_moves, moved_line, moved_run, moves}
-use Rattle.replay_piece.specs.Piece.{Stand, after_record, run_of, stand_at, stops, value_after}
+use Rattle.replay_piece.specs.Piece.{Stand, after_record, run_of, stops, value_after}
 use Rattle.replay_piece.specs.Whole.{shown}
 use Rattle.replay_piece.specs.Types.{
   Change,
   Done,
   Entry,
   LastValue,
-  Outcome,
   Plan,
   Progress,
   RecordPlan,
@@ -39,7 +42,7 @@ use Rattle.replay_piece.specs.Types.{
   Settings,
   Shows,
 }
-use Rattle.replay_piece.proofs.PieceLeft.{Going, going_on, going_stops, part_length_lem}
+use Rattle.replay_piece.proofs.PieceLeft.{Going, going_on, going_stops}
 
 -- a request leaves a neat manager neat
 pub granted_neat : (m : SdoClientManager) → Neat m → (store output : Bytes) (x : Request) → Neat (granted m store output x).done.manager
@@ -47,9 +50,9 @@ granted_neat m neat store output (calls x) = call_neat m neat store output x
 granted_neat m neat store output (answers a) = neat
 
 -- what does not move the manager can be done in place
-runs_by : (d : SdoClientConnection) (x : Outcome) → d.outcome ≡ x → end_here (end_with d x) false ≡ false → Runs d
-runs_by d Outcome.Running e h = e
-runs_by d (Outcome.Ended why) e h = let z : ◌≡◌ {A = ℕ} 0 1 = cc h in absurd (omega arith)
+runs_by : (d : SdoClientConnection) (x : Option Reason) → d.outcome ≡ x → end_here (end_with d x) false ≡ false → Runs d
+runs_by d None e h = e
+runs_by d (Some why) e h = let z : ◌≡◌ {A = ℕ} 0 1 = cc h in absurd (omega arith)
 
 stays : (e : Entry) → entry_moves e ≡ false → Stays e
 stays Entry.Nowhere f = tt
@@ -92,8 +95,13 @@ few_held m neat eight =
     let many : m.count ≡ length (live m) = ap (λ (x : SdoClientManager). x.count) neat.is in
     let t = length-take m.count m.connections in omega arith
 
+-- where the loop stands
+abbrev pub standing : SdoClientManager → Progress → Bytes → Bytes → Bytes → Bytes → Stand
+standing m p store gather output text =
+    record { run = run_of m p; store = store; gather = gather; output = output; text = text }
+
 -- a record by what comes of it, under any name
-module _ (settings : Settings) (m : SdoClientManager) (p : Progress) (at : ℕ) (store gather output text b : Bytes) where
+module _ (settings : Settings) (m : SdoClientManager) (p : Progress) (store gather output text b : Bytes) where
   abbrev asked : Asked
   asked = record_asks p.gathered b settings.choices gather
 
@@ -101,22 +109,22 @@ module _ (settings : Settings) (m : SdoClientManager) (p : Progress) (at : ℕ) 
   call = granted m store output asked.request
 
   -- the last value after it
-  abbrev value_on : After → LastValue
+  abbrev value_on : After → Option LastValue
   value_on q = value_after q.done.ends.count q.done.answer (p.number + 1) p.value
 
-  same_stand : (q : After) {gathered read end : ℕ} {store' gather' text' : Bytes} → q ≡ call → store' ≡ q.store
-      → gathered ≡ asked.gathered → read ≡ at + length b
+  same_stand : (q : After) {gathered end : ℕ} {store' gather' text' : Bytes} → q ≡ call → store' ≡ q.store
+      → gathered ≡ asked.gathered
       → end ≡ p.text + length (shown settings.shows (p.number + 1) b m q)
       → gather' ≡ asked.gather → text' ≡ placed text p.text (shown settings.shows (p.number + 1) b m q)
-      → stand_at q.done.manager (record { gathered = gathered; number = p.number + 1; read = p.read; text = end; value = value_on q }) read store' gather' q.output text'
-      ≡ after_record settings (stand_at m p at store gather output text) b
+      → standing q.done.manager (record { gathered = gathered; number = p.number + 1; read = p.read + length b; text = end; value = value_on q }) store' gather' q.output text'
+      ≡ after_record settings (standing m p store gather output text) b
   unfolding after_record
-  same_stand q e s h r k g t = rw (k, t, s, h, r, g, e) refl
+  same_stand q e s h k g t = rw (k, t, s, h, g, e) refl
 
-module _ (settings : Settings) (m : SdoClientManager) (p : Progress) (at : ℕ) (store gather output text : Bytes) {first total : Stand} {input : Bytes}
-    (g : Going settings first total input (stand_at m p at store gather output text) at) where
+module _ (settings : Settings) (m : SdoClientManager) (p : Progress) (store gather output text : Bytes) {first total : Stand} {bytes : ℕ} {left : Bytes}
+    (g : Going settings first total bytes left (standing m p store gather output text)) where
   abbrev stand : Stand
-  stand = stand_at m p at store gather output text
+  stand = standing m p store gather output text
 
   -- it stops at 65,535 records, and without room for a line
   pub last_record : p.number ≡ 65535 → stand ≡ total
@@ -134,8 +142,8 @@ module _ (settings : Settings) (m : SdoClientManager) (p : Progress) (at : ℕ) 
       either_way true = refl
       either_way false = late
 
-  module _ (few : p.number ≡ 65535 → ⊥) (room : p.text + 8211 ≤ length text) (more : at < length input) {n : ℕ} {b : Bytes} (size : n ≡ min (length input - at) 32)
-      (part : b ≡ part_at input at n) (a : RecordPlan) {store' gather' output' : Bytes}
+  module _ (few : p.number ≡ 65535 → ⊥) (room : p.text + 8211 ≤ length text) (b rest : Bytes) (cut : left ≡ b ++ rest) (size : length b ≡ min 32 (length left))
+      (more : 0 < length left) (a : RecordPlan) {store' gather' output' : Bytes}
       (does : let x : AskedPlan = asked_plan m store output (record_asks p.gathered b settings.choices gather) in
       (a ≡ x.plan)
       × ((store' ≡ x.store)
@@ -148,46 +156,45 @@ module _ (settings : Settings) (m : SdoClientManager) (p : Progress) (at : ℕ) 
     goes = rw (ne_eqb p.number 65535 few, le-ltb (length text) (p.text + 8211) (omega arith))
 
     abbrev here : After
-    here = call settings m p at store gather output text b
+    here = call settings m p store gather output text b
 
     called : plan_done a.plan m store' output' ≡ here
     called =
         rw (ap (λ (x : RecordPlan). x.plan) does.0, does.1.0, does.1.1.1.0)
-        (plan_grants m store output (asked settings m p at store gather output text b).request)
+        (plan_grants m store output (asked settings m p store gather output text b).request)
 
     after_neat : Neat (after_record settings stand b).run.manager
     unfolding after_record
-    after_neat = granted_neat m g.neat store output (asked settings m p at store gather output text b).request
+    after_neat = granted_neat m g.neat store output (asked settings m p store gather output text b).request
 
     on_by : (q : After) {end : ℕ} {text' : Bytes} → q ≡ here → store' ≡ q.store
         → end ≡ p.text + length (shown settings.shows (p.number + 1) b m q)
         → text' ≡ placed text p.text (shown settings.shows (p.number + 1) b m q) → length q.output ≡ length output
         → length text' ≡ length text
-        → Going settings first total input
-        (stand_at q.done.manager
+        → Going settings first total bytes rest
+        (standing q.done.manager
         (record {
           gathered = a.gathered;
           number = p.number + 1;
-          read = p.read;
+          read = p.read + length b;
           text = end;
           value = value_after q.done.ends.count q.done.answer (p.number + 1) p.value;
         })
-        (at + n) store' gather' q.output text')
-        (at + n)
+        store' gather' q.output text')
     on_by q e s h t u v =
-        going_on settings g more size part goes after_neat
+        going_on settings g b rest cut size more goes after_neat
         (record {
           store = does.1.1.1.1.1.0 ∙ g.sized.store;
           gather = does.1.1.1.1.1.1.0 ∙ g.sized.gather;
           output = u ∙ g.sized.output;
           text = v ∙ g.sized.text;
         })
-        (same_stand settings m p at store gather output text b q e s (ap (λ (x : RecordPlan). x.gathered) does.0)
-        (ap (λ x. at + x) (sym (part_length_lem settings g more size part))) h does.1.1.0 t)
+        (same_stand settings m p store gather output text b q e s (ap (λ (x : RecordPlan). x.gathered) does.0)
+        h does.1.1.0 t)
 
     -- by a plan that moves the manager
     abbrev counted : Run
-    counted = run_of m (record { gathered = a.gathered; number = p.number + 1; read = p.read; text = p.text; value = p.value })
+    counted = run_of m (record { gathered = a.gathered; number = p.number + 1; read = p.read + length b; text = p.text; value = p.value })
 
     abbrev Moved : Run → Run → Bytes → Bytes → Type 0
     Moved run after out text' =
@@ -197,7 +204,7 @@ module _ (settings : Settings) (m : SdoClientManager) (p : Progress) (at : ℕ) 
         × ((length out ≡ length output') × (length text' ≡ length text))))
 
     pub moved_on_lem : {run after : Run} {out text' : Bytes} → run ≡ counted → Moved run after out text'
-        → Going settings first total input (stand_at after.manager after.progress (at + n) store' gather' out text') (at + n)
+        → Going settings first total bytes rest (standing after.manager after.progress store' gather' out text')
     moved_on_lem {after = after} {out = out} {text' = text'} e h =
         let k : Moved counted after out text' = subst (λ (r : Run). Moved r after out text') e h in
         rw (k.0, k.1.0, k.1.1.0)
@@ -225,10 +232,9 @@ module _ (settings : Settings) (m : SdoClientManager) (p : Progress) (at : ℕ) 
 
       pub quiet_on : {k : SdoClientManager} {end : ℕ} {text' : Bytes} → k ≡ in_place m change
           → (end ≡ p.text + length written) × ((text' ≡ placed text p.text written) × (length text' ≡ length text))
-          → Going settings first total input
-          (stand_at k (record { gathered = a.gathered; number = p.number + 1; read = p.read; text = end; value = p.value })
-          (at + n) store' gather' output' text')
-          (at + n)
+          → Going settings first total bytes rest
+          (standing k (record { gathered = a.gathered; number = p.number + 1; read = p.read + length b; text = end; value = p.value })
+          store' gather' output' text')
       unfolding value_after pick
       quiet_on e h =
           rw e

@@ -1,7 +1,7 @@
 -- A piece of a trace, replayed (document 01, "Replay"): records of 32 bytes, and what is written of each (`shown`); at most 65,535 records. What a record asks for is
 -- in replay_record's Request. What is left at the end is a short record, so only the last piece of an input may end inside one. The piece stops where the
 -- text has no room for a line more.
-use Rattle.std.specs.Prelude.{ℕ, zero, suc, ◌+◌, Bool, true, [], ◌∷◌, eqb, ltb, length, take, drop}
+use Rattle.std.specs.Prelude.{ℕ, zero, suc, ◌+◌, Bool, true, [], ◌∷◌, eqb, ltb, length, take, drop, Option, Some}
 use Rattle.laws.specs.Pick.{pick}
 use Rattle.codec.specs.Bytes.{Bytes, placed}
 use Rattle.man_table.specs.Sweep.{running}
@@ -21,13 +21,13 @@ pub record Stand : Type 0 where
   pub text : Bytes
 
 -- The last value after a record. Where no job ended it is left alone, without a look at the answer: a value comes only with an end (theorems' `ValuesAlone`).
-abbrev pub last_by : Answer → ℕ → LastValue → LastValue
+abbrev pub last_by : Answer → ℕ → Option LastValue → Option LastValue
 last_by Answer.Nothing number last = last
 last_by (Answer.Sent s) number last = last
-last_by (Answer.Value part) number last = record { «record» = number; at = part }
+last_by (Answer.Value part) number last = Some (record { «record» = number; at = part })
 last_by (Answer.Refused r) number last = last
 
-unfoldable pub value_after : ℕ → Answer → ℕ → LastValue → LastValue
+unfoldable pub value_after : ℕ → Answer → ℕ → Option LastValue → Option LastValue
 value_after ended answer number last = pick (eqb ended 0) last (last_by answer number last)
 
 -- after a call, and a line behind the text

@@ -1,7 +1,7 @@
 -- A host that replays an input by calls of `replay_piece`, and what it prints. A call gets the next bytes that were not read so far: those of any number of
 -- records, or fewer where the input ends, so that only the last piece ends inside a record. It gets the run and the slices as the call before left them.
 -- Between calls the host may write the text out and begin it anew. Where the text is full a call reads less than it gets, and the next one gets the rest.
-use Rattle.std.specs.Prelude.{ℕ, ◌+◌, ◌*◌, ◌<◌, ◌≤◌, List, [], ◌∷◌, ◌++◌, ◌⊎◌, ◌≡◌, length, take, drop}
+use Rattle.std.specs.Prelude.{ℕ, ◌+◌, ◌*◌, ◌<◌, ◌≤◌, List, [], ◌∷◌, ◌++◌, ◌⊎◌, ◌≡◌, length, take, drop, Option, None}
 use Rattle.codec.specs.Bytes.{Bytes}
 use Rattle.replay_line.specs.Line.{most_line}
 use Rattle.replay_piece.specs.Piece.{Stand, piece_of, run_of}
@@ -43,8 +43,8 @@ emptied s =
     }
 
 -- no record was answered a value
-abbrev pub no_value : LastValue
-no_value = record { «record» = 0; at = record { start = 0; length = 0 } }
+abbrev pub no_value : Option LastValue
+no_value = None
 
 -- at first nothing is read and nothing written; the text's buffer is any
 abbrev pub begins : Bytes → Bytes → HostStand

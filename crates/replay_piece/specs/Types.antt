@@ -1,9 +1,6 @@
 -- The types that the definitions of a piece speak of, under one name.
 pub use Rattle.codec.specs.declared.refusal.Refusal.{Refusal}
-pub use Rattle.codec.specs.declared.sequence.Written.{Written}
 pub use Rattle.con_rec.specs.declared.Mode.{Mode}
-pub use Rattle.con_rec.specs.declared.Outcome.{Outcome}
-pub use Rattle.con_rec.specs.declared.Parameter.{Parameter}
 pub use Rattle.con_rec.specs.declared.SdoClientConnection.{SdoClientConnection}
 pub use Rattle.man_table.specs.declared.types.Entry.{Entry}
 pub use Rattle.man_table.specs.declared.types.SdoClientManager.{SdoClientManager}

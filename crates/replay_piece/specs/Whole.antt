@@ -1,7 +1,7 @@
 -- The replay as a whole (document 01, "Replay"): from the bytes of an input to all its lines. Its records, 32 bytes each, are taken one after another.
 -- What a record asks for and what comes of it are `record_asks` and `granted` (replay_record's Request); its line is `line_of` (replay_line's Line). And
 -- `values`, which reads the same records: its lines are `value_text` (replay_line's Value).
-use Rattle.std.specs.Prelude.{ℕ, zero, suc, ◌+◌, [], ◌∷◌, ◌++◌, take, drop, replicate}
+use Rattle.std.specs.Prelude.{ℕ, zero, suc, ◌+◌, [], ◌∷◌, ◌++◌, take, drop, replicate, None}
 use Rattle.codec.specs.Bytes.{Bytes}
 use Rattle.man_table.specs.Table.{new_manager, store_size}
 use Rattle.man_value.specs.Value.{object_of}
@@ -10,7 +10,7 @@ use Rattle.replay_line.specs.Line.{line_of}
 use Rattle.replay_line.specs.Value.{node_of, value_text}
 use Rattle.replay_record.specs.Gather.{gather_size}
 use Rattle.replay_record.specs.Request.{Asked, granted, record_asks}
-use Rattle.replay_piece.specs.Types.{Mode, Parameter, SdoClientManager, Settings, Shows}
+use Rattle.replay_piece.specs.Types.{Mode, SdoClientManager, Settings, Shows}
 
 abbrev pub record_size : ℕ
 record_size = 32
@@ -81,7 +81,7 @@ module _ (settings : Settings) where
 -- The replay and `values` are in repository mode, with timeout and retries absent.
 abbrev pub plain : Shows → Settings
 plain shows =
-    record { shows = shows; choices = record { mode = Mode.Repository; timeout = Parameter.Absent; retries = Parameter.Absent } }
+    record { shows = shows; choices = record { mode = Mode.Repository; timeout = None; retries = None } }
 
 abbrev pub all_lines : Bytes → Bytes
 all_lines input = lines_with (plain Shows.Lines) input

@@ -3,5 +3,4 @@
 #![tactic(auto)]
 
 pub mod replay;
-pub(crate) mod told;
 pub mod types;

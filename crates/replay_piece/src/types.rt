@@ -16,21 +16,21 @@ pub struct Settings {
     pub choices: Choices,
 }
 
-// The last value that a record was answered: the record's number, 0 where none was, and the part of the store.
+// A value that a record was answered: the record's number, and the part of the store.
 #[derive(Clone, Copy)]
 pub struct LastValue {
     pub record: u16,
     pub at: StorePart,
 }
 
-// The bytes gathered; the number of the last record, the bytes read of the piece, the text so far; and the last value.
+// The bytes gathered; the number of the last record, the bytes read of the piece, the text so far; and the last value, if there was one.
 #[derive(Clone, Copy)]
 pub struct Progress {
     pub gathered: usize,
     pub number: u16,
     pub read: usize,
     pub text: usize,
-    pub value: LastValue,
+    pub value: Option<LastValue>,
 }
 
 #[derive(Clone, Copy)]

@@ -1,6 +1,5 @@
 pub mod GatherBuffer
 pub mod GatherMore
-pub mod OperationNumber
 pub mod ReadRecord
 pub mod RecordPlan
 pub mod ReplayRefuses

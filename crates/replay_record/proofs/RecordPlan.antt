@@ -1,5 +1,6 @@
 -- What a record asks for, by what was read of it: the plan, the store, the gather's bytes and the output together. And a plan carried out is what comes
 -- of the request.
+use Rattle.std.specs.Prelude.{Result}
 use Prim.Native.Nat.{ℕ, ◌≤◌, ◌<◌}
 use mathlib.Core.Path.{◌≡◌, refl, subst}
 use mathlib.Core.List.{[]}
@@ -12,7 +13,7 @@ use Rattle.manager.specs.Plan.{plan_done, plan_of}
 use Rattle.replay_record.specs.Gather.{already_gathered, gather_size}
 use Rattle.replay_record.specs.Record.{record_read}
 use Rattle.replay_record.specs.Request.{Asked, Request, answers, asked_plan, calls, granted, read_asks, record_asks, refuses_with, request_plan, use_call}
-use Rattle.replay_record.specs.Types.{Choices, Mode, Now, Record, RecordPlan, RecordRead, Refusal, SdoClientManager, Use}
+use Rattle.replay_record.specs.Types.{Choices, Mode, Now, Record, RecordPlan, Refusal, SdoClientManager, Use}
 
 -- the four parts, by what the record is found to ask for
 module _ (m : SdoClientManager) (store output : Bytes) where
@@ -52,7 +53,7 @@ module _ (gathered : ℕ) (b : Bytes) (choices : Choices) (gather : Bytes) where
   unfolding record_asks
   unread h = below _ _ _ _ h refl
 
-  pub reads : {read arm : RecordRead} → gather_size ≤ length gather → read ≡ record_read b → read ≡ arm
+  pub reads : {read arm : Result Record Refusal} → gather_size ≤ length gather → read ≡ record_read b → read ≡ arm
       → read_asks arm (already_gathered gathered) b choices gather ≡ record_asks gathered b choices gather
   unfolding record_asks
   reads h e f = not_below _ _ _ _ h (told (λ x. read_asks x (already_gathered gathered) b choices gather) e f refl)

@@ -1,4 +1,5 @@
 -- The replay's reading of a record and its gather go by their checks, so each refusal is given exactly when document 01's column says.
+use Rattle.std.specs.Prelude.{Option, Some, None, Result, Ok, Err}
 use Prim.Native.Nat.{ℕ, ◌+◌, ◌≤◌, ◌<◌}
 use native.Mathlib.Omega.{arith}
 use mathlib.Core.Path.{◌≡◌, refl, ap, ◌∙◌}
@@ -17,7 +18,7 @@ use Rattle.replay_record.specs.Causes.{ReplayRefuses, ask_checks, gather_checks,
 use Rattle.replay_record.specs.Gather.{already_gathered, gather_size, gathered_with, most_gathered}
 use Rattle.replay_record.specs.Record.{operation_of, own_data, record_named, record_read}
 use Rattle.replay_record.specs.Request.{Asked, Request, answers, calls, operation_asks, read_asks, record_asks, when_of}
-use Rattle.replay_record.specs.Types.{Answer, Choices, Gathered, Mode, Now, Operation, OperationRead, Record, RecordRead, Refusal}
+use Rattle.replay_record.specs.Types.{Answer, Choices, Gathered, Mode, Now, Operation, Record, Refusal}
 
 -- ---- the operation of a number: 1 to 7, and 7 is the gather
 abbrev GatherAt : ℕ → Operation → Type 0
@@ -29,9 +30,9 @@ GatherAt n Operation.Gather = n ≡ 7
 abbrev OneToSeven : ℕ → Type 0
 OneToSeven n = (1 ≤ n) × (n ≤ 7)
 
-abbrev NamedBy : ℕ → OperationRead → Type 0
-NamedBy n (OperationRead.Known o) = OneToSeven n × GatherAt n o
-NamedBy n OperationRead.Unknown = OneToSeven n → ⊥
+abbrev NamedBy : ℕ → Option Operation → Type 0
+NamedBy n (Some o) = OneToSeven n × GatherAt n o
+NamedBy n None = OneToSeven n → ⊥
 
 operation_named : (n : ℕ) → NamedBy n (operation_of n)
 unfolding operation_of
@@ -56,28 +57,28 @@ operation_named n =
     ) in
     let most = z.1 in omega arith)))))))
   where
-    P : OperationRead → Type 0
+    P : Option Operation → Type 0
     P = NamedBy n
 
 -- ---- a record: what is known of one that is read
 module _ (b : Bytes) where
-  abbrev Read : RecordRead → Type 0
-  Read (RecordRead.Record r) =
+  abbrev Read : Result Record Refusal → Type 0
+  Read (Ok r) =
       (32 ≤ length b) × (length_in b ≤ 16) × (r.length ≡ length_in b) × GatherAt (operation_in b) r.operation
-  Read (RecordRead.Refused r) = ⊥
+  Read (Err r) = ⊥
 
   abbrev bad_checks : List (Check Refusal)
   bad_checks = check Refusal.BadRecord (OneToSeven (operation_in b) → ⊥) ∷ check Refusal.BadRecord (16 < length_in b) ∷ []
 
-  named_goes : 32 ≤ length b → (o : OperationRead) → NamedBy (operation_in b) o → Answers RecordRead.Refused Read bad_checks (record_named b o)
-  named_goes whole OperationRead.Unknown h = inl (h, refl)
-  named_goes whole (OperationRead.Known o) h =
-      inr (λ z. z h.0, refuses_below RecordRead.Refused Read [] _ 16 (length_in b) (λ e. (whole, e, refl, h.1)))
+  named_goes : 32 ≤ length b → (o : Option Operation) → NamedBy (operation_in b) o → Answers Err Read bad_checks (record_named b o)
+  named_goes whole None h = inl (h, refl)
+  named_goes whole (Some o) h =
+      inr (λ z. z h.0, refuses_below Err Read [] _ 16 (length_in b) (λ e. (whole, e, refl, h.1)))
 
-  record_goes : Answers RecordRead.Refused Read (record_checks b) (record_read b)
+  record_goes : Answers Err Read (record_checks b) (record_read b)
   unfolding record_read
   record_goes =
-      refuses_below RecordRead.Refused Read bad_checks _ (length b) 32
+      refuses_below Err Read bad_checks _ (length b) 32
       (λ e. named_goes e (operation_of (operation_in b)) (operation_named (operation_in b)))
 
 -- ---- a gather
@@ -129,22 +130,22 @@ module _ (gathered : ℕ) (b : Bytes) (choices : Choices) (gather : Bytes) where
       (λ e. inl (ltb-true _ _ e, refl))
       (λ e. let k : gather_size ≤ length gather = ltb-false _ _ e in inr (
         λ z. omega arith,
-        told_by_lem RecordRead.Refused (Read b) refused_by Asks (λ x. (read_asks x already b choices gather).request) (λ r. refl)
+        told_by_lem Err (Read b) refused_by Asks (λ x. (read_asks x already b choices gather).request) (λ r. refl)
             (record_checks b) (check Refusal.NoRoom GatherCause ∷ []) (record_read b) (go (record_read b)) (record_goes b),
       ))
     where
-      go : (x : RecordRead) → Read b x
+      go : (x : Result Record Refusal) → Read b x
           → Answers refused_by Asks (check Refusal.NoRoom GatherCause ∷ []) (read_asks x already b choices gather).request
-      go (RecordRead.Record r) h =
+      go (Ok r) h =
           let e = h.2 in
           let inside : 16 + r.length ≤ length b = let k = h.0 in let l = h.1 in omega arith in
           operation_goes r.operation choices.mode r (when_of r choices) (own_data b r) h.3 (own_length b r.length inside ∙ e)
-      go (RecordRead.Refused r) h = absurd h
+      go (Err r) h = absurd h
 
 pub replay_refuses : ReplayRefuses
 replay_refuses =
     record {
-      record_read_lem = λ b. exactly RecordRead.Refused (Read b) (λ r u. u) (λ r s e. cc) (record_checks b) _ (record_goes b);
+      record_read_lem = λ b. exactly Err (Read b) (λ r u. u) (λ r s e. cc) (record_checks b) _ (record_goes b);
       gather_more = λ already more. exactly Answer.Refused Gathers (λ r u. u) (λ r s e. cc) (gather_checks already more) _ (gather_goes already more);
       record_asks_lem = λ gathered b choices gather.
           exactly refused_by Asks (λ r u. u) (λ r s e. cc) (ask_checks gathered b gather) _ (ask_goes gathered b choices gather);

@@ -1,12 +1,12 @@
 -- Each refusal that a record gets from the replay itself, given exactly when, in the order of the checks: 11, 10 and 7 as document 01's column says
 -- ("Numbers that refuse"), and 1 for a gather buffer that is too short. What the manager refuses is refused by the call that a record asks for.
-use Rattle.std.specs.Prelude.{ℕ, ◌+◌, ◌≤◌, ◌<◌, ◌≡◌, List, [], ◌∷◌, ◌++◌, length, get_or}
+use Rattle.std.specs.Prelude.{ℕ, ◌+◌, ◌≤◌, ◌<◌, ◌≡◌, List, [], ◌∷◌, ◌++◌, length, get_or, Err}
 use Rattle.laws.specs.Checks.{Check, Exactly, check}
 use Rattle.codec.specs.Bytes.{Bytes}
 use Rattle.replay_record.specs.Gather.{already_gathered, gather_size, gathered_with, most_gathered}
 use Rattle.replay_record.specs.Record.{record_read}
 use Rattle.replay_record.specs.Request.{Request, answers, record_asks}
-use Rattle.replay_record.specs.Types.{Answer, Choices, RecordRead, Refusal}
+use Rattle.replay_record.specs.Types.{Answer, Choices, Refusal}
 
 -- a record's operation (byte 0) and its length (byte 5)
 abbrev pub operation_in : Bytes → ℕ
@@ -40,7 +40,7 @@ abbrev pub refused_by : Refusal → Request
 refused_by r = answers (Answer.Refused r)
 
 pub record ReplayRefuses : Type 0 where
-  pub record_read_lem : (b : Bytes) → Exactly RecordRead.Refused (record_checks b) (record_read b)
+  pub record_read_lem : (b : Bytes) → Exactly Err (record_checks b) (record_read b)
   pub gather_more : (already more : ℕ) → Exactly Answer.Refused (gather_checks already more) (gathered_with already more).answer
   pub record_asks_lem : (gathered : ℕ) (b : Bytes) (choices : Choices) (gather : Bytes)
       → Exactly refused_by (ask_checks gathered b gather) (record_asks gathered b choices gather).request

@@ -1,6 +1,12 @@
 -- What a record asks for (document 01, "Replay"): a call of the manager, or an answer of the replay's own; and what comes of it. Operations 1, 3 and 4
 -- use what was gathered plus their own data and then empty it, refused by the library or not. A BadRecord leaves it.
-use Rattle.std.specs.Prelude.{ℕ, ◌/◌, ◌%◌, [], ◌∷◌, ◌++◌, ltb, length, take}
+use Rattle.std.specs.Prelude.{ℕ, ◌/◌, ◌%◌, [], ◌∷◌, ◌++◌, ltb, length, take, None, Result, Ok, Err}
+use Rattle.codec.specs.declared.refusal.Refusal.{Refusal}
+use Rattle.codec.specs.declared.sequence.SequenceLayerHeader.{SequenceLayerHeader}
+use Rattle.codec.specs.declared.command.CommandId.{CommandId}
+use Rattle.codec.specs.declared.command.SdoCommand.{SdoCommand}
+use Rattle.replay_record.specs.declared.record.Record.{Record}
+use Rattle.replay_record.specs.declared.record.Operation.{Operation}
 use Rattle.laws.specs.Pick.{pick}
 use Rattle.codec.specs.Bytes.{Bytes, placed}
 use Rattle.codec.specs.Command.{header_at}
@@ -14,13 +20,11 @@ use Rattle.replay_record.specs.Types.{
   Answer,
   Choices,
   CommandId,
-  DataSize,
   Mode,
   Now,
   Operation,
   Record,
   RecordPlan,
-  RecordRead,
   Refusal,
   SdoClientManager,
   SdoCommand,
@@ -51,7 +55,7 @@ abbrev pub flagged : ℕ → Bytes
 flagged flags = 0 ∷ 0 ∷ flags ∷ 0 ∷ 0 ∷ 0 ∷ 0 ∷ 0 ∷ 0 ∷ 0 ∷ 0 ∷ 0 ∷ []
 
 abbrev pub reply_command : ℕ → SdoCommand
-reply_command flags = record { header = header_at (flagged flags) CommandId.Nil; data_size = DataSize.Absent }
+reply_command flags = record { header = header_at (flagged flags) CommandId.Nil; data_size = None }
 
 -- the call with those bytes
 abbrev pub use_call : Use → Mode → Record → Now → Bytes → Call
@@ -82,9 +86,9 @@ when_of r choices = record { time = r.time; timeout = choices.timeout; retries =
 abbrev pub refuses_with : Refusal → ℕ → Bytes → Asked
 refuses_with why already gather = record { request = answers (Answer.Refused why); gathered = already; gather = gather }
 
-abbrev pub read_asks : RecordRead → ℕ → Bytes → Choices → Bytes → Asked
-read_asks (RecordRead.Refused why) already b choices gather = refuses_with why already gather
-read_asks (RecordRead.Record r) already b choices gather =
+abbrev pub read_asks : Result Record Refusal → ℕ → Bytes → Choices → Bytes → Asked
+read_asks (Err why) already b choices gather = refuses_with why already gather
+read_asks (Ok r) already b choices gather =
     operation_asks r.operation choices.mode r already (when_of r choices) (own_data b r) gather
 
 -- A gather buffer under 4,112 bytes is refused with 1.

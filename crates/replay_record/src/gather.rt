@@ -31,7 +31,7 @@ pub(crate) fn gather_more(already: usize, own: &[u8], gather: &mut [u8]) -> Gath
             gathered: already,
         };
     }
-    put(gather, already, own);
+    let _ = put(gather, already, own);
     Gathered {
         answer: Answer::Nothing,
         gathered: already + own.len(),

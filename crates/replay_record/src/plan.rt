@@ -5,15 +5,13 @@ ghost use Rattle.manager.specs.Plan.{plan_of};
 ghost use Rattle.replay_record.specs.Request.{reply_header, reply_command, use_call, operation_asks, record_asks, asked_plan};
 
 use crate::gather::{GATHER_SIZE, Gathered, MOST_GATHERED, gather_more};
-use crate::record::{Operation, Record, RecordRead, Use, read_record};
-use codec::command::{
-    CommandId, CommandLayerHeader, CommandRead, DataSize, SdoCommand, Segmentation,
-};
+use crate::record::{Operation, Record, Use, read_record};
+use codec::command::{CommandId, CommandLayerHeader, SdoCommand, Segmentation};
 use codec::octets::{part, put};
 use codec::refusal::Refusal;
-use codec::sequence::{ReceiveConnState, SendConnState, SequenceLayerHeader, SequenceRead};
+use codec::sequence::{ReceiveConnState, SendConnState, SequenceLayerHeader};
 use con_rec::numbers::at_most;
-use con_rec::{Mode, Now, Parameter};
+use con_rec::{Mode, Now};
 use man_table::types::SdoClientManager;
 use manager::change::same;
 use manager::change_reply::reply_change;
@@ -25,8 +23,8 @@ use manager::types::{Answer, Plan};
 #[derive(Clone, Copy)]
 pub struct Choices {
     pub mode: Mode,
-    pub timeout: Parameter,
-    pub retries: Parameter,
+    pub timeout: Option<u32>,
+    pub retries: Option<u32>,
 }
 
 // A record's plan, and how many bytes are gathered after it.
@@ -50,45 +48,19 @@ fn reply_header(index: u16) -> SequenceLayerHeader
     ensures { result ≡ reply_header index }
 {
     let octets = [(index % 256) as u8, (index / 256) as u8, 0, 0];
-    let SequenceRead::Header(h) = SequenceLayerHeader::deserialize(&octets) else {
-        // never: four bytes are a header
-        return SequenceLayerHeader {
-            receive_sequence_number: 0,
-            receive_con: ReceiveConnState::NoConnection,
-            send_sequence_number: 0,
-            send_con: SendConnState::NoConnection,
-        };
-    };
-    h
+    // four bytes are a header
+    SequenceLayerHeader::deserialize(&octets).unwrap()
 }
 
 fn reply_command(flags: u8) -> SdoCommand
     ensures { result ≡ reply_command flags }
 {
     let octets = [0, 0, flags, 0, 0, 0, 0, 0, 0, 0, 0, 0];
-    let CommandRead::Command {
-        command,
-        start: _,
-        len: _,
-    } = SdoCommand::deserialize(&octets)
-    else {
-        // never: twelve bytes that begin with a Nil command are one
-        return SdoCommand {
-            header: CommandLayerHeader {
-                transaction_id: 0,
-                is_response: false,
-                is_aborted: false,
-                segmentation: Segmentation::Expedited,
-                command_id: CommandId::Nil,
-                segment_size: 0,
-            },
-            data_size: DataSize::Absent,
-        };
-    };
-    let header = command.header;
+    // twelve bytes that begin with a Nil command are one
+    let found = SdoCommand::deserialize(&octets).unwrap();
     SdoCommand {
-        header,
-        data_size: DataSize::Absent,
+        header: found.command.header,
+        data_size: None,
     }
 }
 
@@ -107,23 +79,15 @@ fn plan_use(
 {
     match u {
         Use::Write => {
-            let change = write_change(m, r.node, mode, r.index, r.sub_index, bytes, when, store);
-            return Plan::Change(change);
+            Plan::Change(write_change(m, r.node, mode, r.index, r.sub_index, bytes, when, store))
         }
-        Use::Dcf => return Plan::Change(load_change(m, r.node, mode, bytes, when, store)),
+        Use::Dcf => Plan::Change(load_change(m, r.node, mode, bytes, when, store)),
         Use::Reply => {
             let seq = reply_header(r.index);
             let cmd = reply_command(r.flags);
-            return Plan::Change(reply_change(m, r.node, seq, cmd, bytes, store));
+            Plan::Change(reply_change(m, r.node, seq, cmd, bytes, store))
         }
     }
-}
-
-fn gathered_as(g: Gathered) -> RecordPlan
-    ensures { result ≡ record { plan = Plan.Change (same_of g.answer); gathered = g.gathered } }
-{
-    let answer = g.answer;
-    answered(answer, g.gathered)
 }
 
 fn perform(
@@ -143,29 +107,27 @@ fn perform(
     ensures gather_after { gather.new ≡ (asked_plan m store.old output.old (operation_asks r.operation mode r already «when» own.now gather.old)).gather }
     ensures output_after { output.new ≡ (asked_plan m store.old output.old (operation_asks r.operation mode r already «when» own.now gather.old)).output }
 {
-    let operation = r.operation;
-    match operation {
+    match r.operation {
         Operation::Uses(u) => {
-            put(gather, already, own);
+            let _ = put(gather, already, own);
             let n = already + own.len();
-            return RecordPlan {
+            RecordPlan {
                 plan: plan_use(u, mode, r, m, when, part(gather, 0, n), store),
                 gathered: 0,
-            };
+            }
         }
-        Operation::Read => {
-            return RecordPlan {
-                plan: Plan::Change(read_change(m, r.node, mode, r.index, r.sub_index, when, store)),
-                gathered: already,
-            };
+        Operation::Read => RecordPlan {
+            plan: Plan::Change(read_change(m, r.node, mode, r.index, r.sub_index, when, store)),
+            gathered: already,
+        },
+        Operation::Turns(t) => RecordPlan {
+            plan: plan_turn(t, m, when, store, output),
+            gathered: already,
+        },
+        Operation::Gather => {
+            let Gathered { answer, gathered } = gather_more(already, own, gather);
+            answered(answer, gathered)
         }
-        Operation::Turns(t) => {
-            return RecordPlan {
-                plan: plan_turn(t, m, when, store, output),
-                gathered: already,
-            };
-        }
-        Operation::Gather => return gathered_as(gather_more(already, own, gather)),
     }
 }
 
@@ -185,23 +147,25 @@ pub fn plan_record(
     ensures gather_after { gather.new ≡ (asked_plan m store.old output.old (record_asks gathered b.now choices gather.old)).gather }
     ensures output_after { output.new ≡ (asked_plan m store.old output.old (record_asks gathered b.now choices gather.old)).output }
 {
-    let mode = choices.mode;
-    let timeout = choices.timeout;
-    let retries = choices.retries;
+    let Choices {
+        mode,
+        timeout,
+        retries,
+    } = choices;
     let already = at_most(gathered, MOST_GATHERED);
     if gather.len() < GATHER_SIZE {
         return answered(Answer::Refused(Refusal::BufferTooShort), already);
     }
     match read_record(b) {
-        RecordRead::Refused(r) => return answered(Answer::Refused(r), already),
-        RecordRead::Record(r) => {
+        Err(why) => answered(Answer::Refused(why), already),
+        Ok(r) => {
             let when = Now {
                 time: r.time,
                 timeout,
                 retries,
             };
             let own = part(b, 16, r.length as usize);
-            return perform(mode, r, m, already, when, own, store, gather, output);
+            perform(mode, r, m, already, when, own, store, gather, output)
         }
     }
 }

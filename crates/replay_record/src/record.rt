@@ -1,8 +1,7 @@
 // A record of 32 bytes: operation, node, index, sub-index, length, time, flags of a reply, one unused, data; numbers low byte first.
 ghost use Rattle.std.specs.Prelude.{◌≡◌, ◌≤◌, length};
-ghost use Rattle.replay_record.specs.Record.{le64_at, operation_of, record_at, record_read};
+ghost use Rattle.replay_record.specs.Record.{le64_at, numbered, operation_of, record_at, record_read};
 
-use codec::octets::{joined16, joined32, joined64};
 use codec::refusal::Refusal;
 use man_table::types::Turn;
 
@@ -27,12 +26,6 @@ pub enum Operation {
     Gather,
 }
 
-#[derive(Clone, Copy)]
-pub enum OperationRead {
-    Known(Operation),
-    Unknown,
-}
-
 // In a reply, index is the sequence octets 0 and 1. The data are the length bytes from the 16th on.
 #[derive(Clone, Copy)]
 pub struct Record {
@@ -45,24 +38,24 @@ pub struct Record {
     pub flags: u8,
 }
 
-#[derive(Clone, Copy)]
-pub enum RecordRead {
-    Record(Record),
-    Refused(Refusal),
-}
+// The operation of a number, 1 to 7.
+impl TryFrom<u8> for Operation {
+    type Error = Refusal;
 
-fn operation_of(n: u8) -> OperationRead
-    ensures { result ≡ operation_of n }
-{
-    match n {
-        1 => OperationRead::Known(Operation::Uses(Use::Write)),
-        2 => OperationRead::Known(Operation::Read),
-        3 => OperationRead::Known(Operation::Uses(Use::Dcf)),
-        4 => OperationRead::Known(Operation::Uses(Use::Reply)),
-        5 => OperationRead::Known(Operation::Turns(Turn::Ticking)),
-        6 => OperationRead::Known(Operation::Turns(Turn::Asking)),
-        7 => OperationRead::Known(Operation::Gather),
-        _ => OperationRead::Unknown,
+    ghost try_from_gives = { λ n r. r ≡ numbered (operation_of n) };
+
+    #[tactic(auto, unfolding(crate::specs::Record::operation_of, laws::specs::Pick::pick))]
+    fn try_from(n: u8) -> Result<Operation, Refusal> {
+        match n {
+            1 => Ok(Operation::Uses(Use::Write)),
+            2 => Ok(Operation::Read),
+            3 => Ok(Operation::Uses(Use::Dcf)),
+            4 => Ok(Operation::Uses(Use::Reply)),
+            5 => Ok(Operation::Turns(Turn::Ticking)),
+            6 => Ok(Operation::Turns(Turn::Asking)),
+            7 => Ok(Operation::Gather),
+            _ => Err(Refusal::BadRecord),
+        }
     }
 }
 
@@ -71,10 +64,7 @@ fn time_at(b: &[u8]) -> u64
     requires { 32 ≤ length b.now }
     ensures { result ≡ le64_at b.now 6 }
 {
-    joined64(
-        joined32(joined16(b[6], b[7]), joined16(b[8], b[9])),
-        joined32(joined16(b[10], b[11]), joined16(b[12], b[13])),
-    )
+    u64::from_le_bytes([b[6], b[7], b[8], b[9], b[10], b[11], b[12], b[13]])
 }
 
 fn record_at(b: &[u8], operation: Operation) -> Record
@@ -84,7 +74,7 @@ fn record_at(b: &[u8], operation: Operation) -> Record
     Record {
         operation,
         node: b[1],
-        index: joined16(b[2], b[3]),
+        index: u16::from_le_bytes([b[2], b[3]]),
         sub_index: b[4],
         length: b[5],
         time: time_at(b),
@@ -93,17 +83,15 @@ fn record_at(b: &[u8], operation: Operation) -> Record
 }
 
 // The record in the first 32 bytes: 11 where there are fewer, 10 where the operation is not 1 to 7 or the length over 16.
-pub fn read_record(b: &[u8]) -> RecordRead
+pub fn read_record(b: &[u8]) -> Result<Record, Refusal>
     ensures { result ≡ record_read b.now }
 {
     if b.len() < RECORD_SIZE {
-        return RecordRead::Refused(Refusal::ShortRecord);
+        return Err(Refusal::ShortRecord);
     }
-    let OperationRead::Known(operation) = operation_of(b[0]) else {
-        return RecordRead::Refused(Refusal::BadRecord);
-    };
+    let operation = Operation::try_from(b[0])?;
     if MOST_DATA < b[5] {
-        return RecordRead::Refused(Refusal::BadRecord);
+        return Err(Refusal::BadRecord);
     }
-    RecordRead::Record(record_at(b, operation))
+    Ok(record_at(b, operation))
 }

@@ -1,16 +1,14 @@
 // The replay (document 01, "Replay"): records of 32 bytes, a line for each; for comparisons each line is followed by the manager's state. And values
 // (document 02, CR 1): the same records, a line for each read that ends Complete.
-use crate::parameters::{Parameters, ParametersRead, plain, read_parameters};
+use crate::parameters::{Parameters, plain, read_parameters};
 use crate::state::print_state;
 use codec::octets::part;
-use con_rec::numbers::at_most;
 use console::read_full;
 use man_table::types::{STORE_SIZE, SdoClientManager};
-use man_value::StorePart;
 use manager::types::OUTPUT_SIZE;
 use replay_line::line::MOST_LINE;
 use replay_piece::replay::replay_piece;
-use replay_piece::types::{LastValue, Progress, Run, Shows};
+use replay_piece::types::{Progress, Run, Shows};
 use replay_record::gather::GATHER_SIZE;
 use replay_record::record::RECORD_SIZE;
 use std::io;
@@ -24,13 +22,7 @@ fn started() -> Run {
             number: 0,
             read: 0,
             text: 0,
-            value: LastValue {
-                record: 0,
-                at: StorePart {
-                    start: 0,
-                    length: 0,
-                },
-            },
+            value: None,
         },
     }
 }
@@ -38,32 +30,33 @@ fn started() -> Run {
 // The bytes that are read or written at a time: 2,048 records, and as much text.
 const BUFFER_SIZE: usize = 65536;
 
-// The first bytes of a piece.
-fn first(b: &[u8; BUFFER_SIZE], n: usize) -> &[u8] {
-    part(b, 0, n)
-}
-
 // All text goes out.
 fn written(rt: &impl Print, run: Run, text: &[u8; BUFFER_SIZE]) -> io::Result<Run> {
-    let manager = run.manager;
-    let progress = run.progress;
-    rt.write_all(first(text, progress.text))?;
+    rt.write_all(part(text, 0, run.progress.text))?;
     Ok(Run {
-        manager,
         progress: Progress {
             text: 0,
-            ..progress
+            ..run.progress
         },
+        ..run
     })
 }
 
 // The text goes out where the longest line might not fit any more.
 fn flushed(rt: &impl Print, run: Run, text: &[u8; BUFFER_SIZE]) -> io::Result<Run> {
-    let progress = run.progress;
-    if progress.text <= BUFFER_SIZE - MOST_LINE {
+    if run.progress.text <= BUFFER_SIZE - MOST_LINE {
         return Ok(run);
     }
     written(rt, run, text)
+}
+
+// What a run is lent: the store, the gather's bytes, the output and the text.
+#[derive(Drop)]
+struct Lent {
+    store: [u8; STORE_SIZE],
+    gather: [u8; GATHER_SIZE],
+    output: [u8; OUTPUT_SIZE],
+    text: [u8; BUFFER_SIZE],
 }
 
 // A record by itself, its line followed by the manager's state.
@@ -72,22 +65,28 @@ fn one_shown(
     run: Run,
     p: Parameters,
     input: &[u8],
-    store: &mut [u8; STORE_SIZE],
-    gather: &mut [u8; GATHER_SIZE],
-    output: &mut [u8; OUTPUT_SIZE],
-    text: &mut [u8; BUFFER_SIZE],
+    lent: &mut Lent,
 ) -> io::Result<Run> {
-    let settings = p.settings;
-    let b = part(input, 0, at_most(input.len(), RECORD_SIZE));
-    let after = replay_piece(run, settings, b, store, gather, output, text);
-    let manager = after.manager;
-    let progress = after.progress;
-    if progress.read == 0 {
+    let b = &input[..input.len().min(RECORD_SIZE)];
+    let after = replayed(run, p, b, lent);
+    if after.progress.read == 0 {
         return Ok(after);
     }
-    let shown = written(rt, after, text)?;
-    print_state(rt, manager, progress, store)?;
+    let shown = written(rt, after, &lent.text)?;
+    print_state(rt, after.manager, after.progress, &lent.store)?;
     Ok(shown)
+}
+
+fn replayed(run: Run, p: Parameters, input: &[u8], lent: &mut Lent) -> Run {
+    replay_piece(
+        run,
+        p.settings,
+        input,
+        &mut lent.store,
+        &mut lent.gather,
+        &mut lent.output,
+        &mut lent.text,
+    )
 }
 
 // Some records: as many as the text has room for, or one where states are shown.
@@ -96,17 +95,13 @@ fn some(
     run: Run,
     p: Parameters,
     input: &[u8],
-    store: &mut [u8; STORE_SIZE],
-    gather: &mut [u8; GATHER_SIZE],
-    output: &mut [u8; OUTPUT_SIZE],
-    text: &mut [u8; BUFFER_SIZE],
+    lent: &mut Lent,
 ) -> io::Result<Run> {
-    let settings = p.settings;
     if p.states {
-        return one_shown(rt, run, p, input, store, gather, output, text);
+        return one_shown(rt, run, p, input, lent);
     }
-    let after = replay_piece(run, settings, input, store, gather, output, text);
-    flushed(rt, after, text)
+    let after = replayed(run, p, input, lent);
+    flushed(rt, after, &lent.text)
 }
 
 // The records of a piece.
@@ -115,56 +110,40 @@ fn piece_by(
     run: Run,
     p: Parameters,
     input: &[u8],
-    store: &mut [u8; STORE_SIZE],
-    gather: &mut [u8; GATHER_SIZE],
-    output: &mut [u8; OUTPUT_SIZE],
-    text: &mut [u8; BUFFER_SIZE],
+    lent: &mut Lent,
 ) -> io::Result<Run> {
     let mut r = run;
-    let mut at: usize = 0;
-    while at < input.len() {
-        let left = input.len() - at;
-        r = some(rt, r, p, part(input, at, left), store, gather, output, text)?;
-        let progress = r.progress;
+    let mut left = input;
+    while !left.is_empty() {
+        r = some(rt, r, p, left, lent)?;
         // none is read where 65,535 were
-        if progress.read == 0 {
+        if r.progress.read == 0 {
             break;
         }
-        if left <= progress.read {
-            break;
-        }
-        at += progress.read;
+        left = left.get(r.progress.read..).unwrap_or(&[]);
     }
     Ok(r)
 }
 
 // The records of the input, piece by piece, as far as it can be read. What cannot be written ends the run.
 fn run_by(rt: &impl Print, from: &mut impl Read, p: Parameters) -> io::Result<()> {
-    let mut store = [0u8; STORE_SIZE];
-    let mut gather = [0u8; GATHER_SIZE];
-    let mut output = [0u8; OUTPUT_SIZE];
+    let mut lent = Lent {
+        store: [0; STORE_SIZE],
+        gather: [0; GATHER_SIZE],
+        output: [0; OUTPUT_SIZE],
+        text: [0; BUFFER_SIZE],
+    };
     let mut input = [0u8; BUFFER_SIZE];
-    let mut text = [0u8; BUFFER_SIZE];
     let mut run = started();
     // 65,535 records lie in 32 pieces
     for _ in 0..32 {
         let n = read_full(from, &mut input);
-        run = piece_by(
-            rt,
-            run,
-            p,
-            first(&input, n),
-            &mut store,
-            &mut gather,
-            &mut output,
-            &mut text,
-        )?;
-        let progress = run.progress;
-        if n < BUFFER_SIZE || progress.read == 0 {
+        run = piece_by(rt, run, p, &input[..n], &mut lent)?;
+        if n < BUFFER_SIZE || run.progress.read == 0 {
             break;
         }
     }
-    written(rt, run, &text)?;
+    written(rt, run, &lent.text)?;
     Ok(())
 }
 
@@ -195,7 +174,7 @@ pub fn values(rt: &(impl Print + Eprint), from: &mut impl Read) -> io::Result<()
 pub fn replay_states(rt: &(impl Print + Eprint), from: &mut impl Read) -> io::Result<()>
     ensures { Unit {0} }
 {
-    let ParametersRead::Parameters(p) = read_parameters(from) else {
+    let Some(p) = read_parameters(from) else {
         return rt.eprintln("the eleventh byte ahead of the records must be 0 or 1");
     };
     told_by(rt, from, p)

@@ -1,9 +1,8 @@
 // The repair of many DCFs one after another, for comparisons: each with two bytes ahead of it, its length, low byte first. For each the line goes to
 // standard output, and then the repaired DCF.
 use crate::tell::Told;
-use codec::octets::{joined16, part};
-use codec::refusal::refusal_number;
-use codec_salvage::{MOST_SALVAGED, SalvageAnswer, Salvaged, salvage};
+use codec::octets::part;
+use codec_salvage::{MOST_SALVAGED, Salvaged, salvage};
 use console::read_full;
 use std::io;
 use std::io::Read;
@@ -11,23 +10,18 @@ use std::io::Read;
 // The longest DCF that two bytes of length can announce, and a byte more.
 const BUFFER_SIZE: usize = 65536;
 
-#[derive(Clone, Copy)]
-enum NextDcf {
-    Length(usize),
-    NoMore,
-}
-
-// The next DCF into the buffer, and its length.
-fn read_next(from: &mut impl Read, input: &mut [u8]) -> NextDcf {
+// The next DCF, read into the buffer.
+fn read_next<'a>(from: &mut impl Read, input: &'a mut [u8]) -> Option<&'a [u8]> {
     let mut head = [0u8; 2];
     if read_full(from, &mut head) < 2 {
-        return NextDcf::NoMore;
+        return None;
     }
-    let length = joined16(head[0], head[1]) as usize;
+    let length = u16::from_le_bytes(head) as usize;
     if input.len() < length {
-        return NextDcf::NoMore;
+        return None;
     }
-    NextDcf::Length(read_full(from, &mut input[..length]))
+    let n = read_full(from, &mut input[..length]);
+    Some(&input[..n])
 }
 
 fn show(rt: &impl Print, told: Salvaged, output: &[u8]) -> io::Result<()> {
@@ -38,8 +32,8 @@ fn show(rt: &impl Print, told: Salvaged, output: &[u8]) -> io::Result<()> {
 fn one(rt: &impl Print, dcf: &[u8]) -> io::Result<()> {
     let mut output = [0u8; MOST_SALVAGED];
     match salvage(dcf, &mut output) {
-        SalvageAnswer::Salvaged(told) => show(rt, told, &output),
-        SalvageAnswer::Refused(r) => rt.println(refusal_number(r)),
+        Ok(told) => show(rt, told, &output),
+        Err(r) => rt.println(u8::from(r)),
     }
 }
 
@@ -49,10 +43,10 @@ pub fn salvage_many(rt: &impl Print, from: &mut impl Read) -> io::Result<()>
 {
     let mut input = [0u8; BUFFER_SIZE];
     for _ in 0..1000000 {
-        let NextDcf::Length(n) = read_next(from, &mut input) else {
+        let Some(dcf) = read_next(from, &mut input) else {
             break;
         };
-        one(rt, part(&input, 0, n))?;
+        one(rt, dcf)?;
     }
     Ok(())
 }

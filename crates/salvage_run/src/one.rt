@@ -3,8 +3,7 @@ ghost use Rattle.std.specs.Prelude.{◌≤◌, IfOk, length};
 
 use crate::tell::Told;
 use codec::octets::part;
-use codec::refusal::refusal_number;
-use codec_salvage::{MOST_SALVAGED, SalvageAnswer, Salvaged, salvage};
+use codec_salvage::{MOST_SALVAGED, Salvaged, salvage};
 use std::io;
 use std::io::Read;
 
@@ -18,11 +17,10 @@ fn read_input(from: &mut impl Read, input: &mut [u8]) -> io::Result<usize>
 {
     let mut n: usize = 0;
     while n < input.len() {
-        let got = from.read(&mut input[n..])?;
-        if got == 0 {
-            break;
+        match from.read(&mut input[n..])? {
+            0 => break,
+            got => n += got,
         }
-        n += got;
     }
     Ok(n)
 }
@@ -44,8 +42,8 @@ pub fn salvage_one(rt: &(impl Print + Eprint), from: &mut impl Read) -> io::Resu
     let Ok(n) = read_input(from, &mut input) else {
         return rt.eprintln("cannot read standard input");
     };
-    match salvage(part(&input, 0, n), &mut output) {
-        SalvageAnswer::Salvaged(told) => hand_out(rt, told, &output),
-        SalvageAnswer::Refused(r) => rt.eprintln(refusal_number(r)),
+    match salvage(&input[..n], &mut output) {
+        Ok(told) => hand_out(rt, told, &output),
+        Err(r) => rt.eprintln(u8::from(r)),
     }
 }

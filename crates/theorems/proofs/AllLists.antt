@@ -1,51 +1,40 @@
--- What holds of all elements of a list, and of the elements of two lists pair by pair: under a part, a change at one place, and one more
+-- What holds of all elements of a list, and of the elements of two lists place by place: under a part, a change at one place, and one more
 -- element.
 use Prim.Native.Nat.{ℕ, zero, suc, ◌<◌}
 use native.Mathlib.Omega.{arith}
 use mathlib.Core.List.{List, [], ◌∷◌, ◌++◌}
 use lib.ListN.{length, take, drop, get_or, set}
-pub use Rattle.theorems.specs.Sound.{All}
+use Rattle.std.specs.Prelude.{All, AllPairs}
+use Rattle.std.specs.List.{AllZip}
+use Rattle.std.proofs.lemmas.List.Elements.{All-append, All-cons, All-drop, All-take, AllZip-get_or, length_all_zip}
 
 module _ {A : Type 0} where
-  abbrev pub Each : (A → A → Type 0) → List A → List A → Type 0
-  Each R [] [] = Unit {0}
-  Each R [] (y ∷ k) = ⊥
-  Each R (x ∷ l) [] = ⊥
-  Each R (x ∷ l) (y ∷ k) = R x y × Each R l k
-
   module _ (P : A → Type 0) where
-    pub all_at : (l : List A) (k : ℕ) (d : A) → k < length l → All P l → P (get_or l k d)
-    all_at [] k d h a = absurd (omega arith)
-    all_at (x ∷ l) zero d h a = a.0
-    all_at (x ∷ l) (suc k) d h a = all_at l k d (omega arith) a.1
-
-    pub all_set : (l : List A) (k : ℕ) (x : A) → P x → All P l → All P (set l k x)
-    all_set [] k x p a = tt
-    all_set (y ∷ l) zero x p a = (p, a.1)
-    all_set (y ∷ l) (suc k) x p a = (a.0, all_set l k x p a.1)
-
     pub all_insert : (l : List A) (k : ℕ) (x : A) → P x → All P l → All P (take k l ++ x ∷ drop k l)
-    all_insert [] zero x p a = (p, tt)
-    all_insert [] (suc k) x p a = (p, tt)
-    all_insert (y ∷ l) zero x p a = (p, a)
-    all_insert (y ∷ l) (suc k) x p a = (a.0, all_insert l k x p a.1)
+    all_insert l k x p a =
+        All-append P (take k l) (x ∷ drop k l) (All-take P k l a) (All-cons P x (drop k l) p (All-drop P k l a))
 
-    pub all_each : (R : A → A → Type 0) → ((x y : A) → R x y → P x → P y) → (l k : List A) → Each R l k → All P l → All P k
-    all_each R f [] [] e a = tt
-    all_each R f [] (y ∷ k) e a = absurd e
-    all_each R f (x ∷ l) [] e a = absurd e
-    all_each R f (x ∷ l) (y ∷ k) e a = (f x y e.0 a.0, all_each R f l k e.1 a.1)
+    pub all_each : (R : A → A → Type 0) → ((x y : A) → R x y → P x → P y) → (l k : List A) → AllZip R l k → All P l → All P k
+    all_each R f l k e a i d h =
+        let within : i < length l = omega (arith, length_all_zip R l k e) in
+        f (get_or l i d) (get_or k i d) (AllZip-get_or R l k i d d e within) (a i d within)
 
-    pub all_by : (Q : A → Type 0) → ((x : A) → P x → Q x) → (l : List A) → All P l → All Q l
-    all_by Q f [] a = tt
-    all_by Q f (x ∷ l) a = (f x a.0, all_by Q f l a.1)
+  module _ (R : A → A → Type 0) where
+    pub pairs_none : AllPairs R []
+    pairs_none i j d h within = absurd (omega arith)
+
+    pub pairs_head : (x : A) (l : List A) → AllPairs R (x ∷ l) → All (R x) l
+    pairs_head x l a k d h = a 0 (suc k) d (omega arith) (omega arith)
+
+    pub pairs_tail : (x : A) (l : List A) → AllPairs R (x ∷ l) → AllPairs R l
+    pairs_tail x l a i j d h within = a (suc i) (suc j) d (omega arith) (omega arith)
 
   module _ (R : A → A → Type 0) (same : (x : A) → R x x) where
-    pub each_same : (l : List A) → Each R l l
+    pub each_same : (l : List A) → AllZip R l l
     each_same [] = tt
     each_same (x ∷ l) = (same x, each_same l)
 
-    pub each_set : (l : List A) (k : ℕ) (d y : A) → R (get_or l k d) y → Each R l (set l k y)
+    pub each_set : (l : List A) (k : ℕ) (d y : A) → R (get_or l k d) y → AllZip R l (set l k y)
     each_set [] k d y r = tt
     each_set (x ∷ l) zero d y r = (r, each_same l)
     each_set (x ∷ l) (suc k) d y r = (same x, each_set l k d y r)

@@ -2,12 +2,14 @@
 use native.Mathlib.Omega.{arith}
 use mathlib.Core.Path.{refl, sym, subst}
 use mathlib.Core.List.{List, [], ◌∷◌}
+use Rattle.std.proofs.lemmas.List.Elements.{All-nil}
+use Rattle.theorems.proofs.AllLists.{pairs_none}
 use Rattle.codec.specs.Bytes.{Bytes}
 use Rattle.manager.specs.Calls.{Call, called, replies, starts, turns}
 use Rattle.man_table.specs.Table.{new_manager}
 use Rattle.man_table.specs.Walk.{stopped, through}
 use Rattle.theorems.specs.Run.{Event, Host, Lends, another, next, own, run}
-use Rattle.theorems.specs.Sound.{Reached, Sound}
+use Rattle.theorems.specs.Sound.{Before, Reached, Sane, Sound}
 use Rattle.theorems.specs.Types.{Answer, End, SdoClientManager as Manager}
 use Rattle.theorems.proofs.Cases.{reply_by_lem, turn_by}
 use Rattle.theorems.proofs.SoundCalls.{reply_sound, turn_sound, walked_sound}
@@ -26,7 +28,7 @@ call_sound (replies node seq cmd payload) m store output s =
     (λ unheld. s) (reply_sound m store s node seq cmd payload)
 
 pub new_sound : (store : Bytes) → Sound new_manager store
-new_sound store = record { is = refl; few = omega arith; ordered = tt; each = tt; number = omega arith }
+new_sound store = record { is = refl; few = omega arith; ordered = pairs_none Before; each = All-nil (Sane store); number = omega arith }
 
 pub event_sound : (h : Host) (x : Event) → Sound h.manager h.store → Sound (next h x).manager (next h x).store
 event_sound h x s = go x.lends

@@ -1,4 +1,6 @@
 -- What each call comes to, case by case: to show something of a call it is enough to show it of each case.
+use Rattle.std.specs.Prelude.{All, Option, Some, None, Ok, MatchOption}
+use Rattle.std.proofs.lemmas.List.Elements.{All-cons, All-nil}
 use Prim.Native.Nat.{ℕ, ◌≤◌, ◌<◌}
 use native.Mathlib.Omega.{arith}
 use mathlib.Core.Path.{◌≡◌, refl, sym, ◌∙◌, ap, subst}
@@ -21,15 +23,12 @@ use Rattle.man_table.specs.Sweep.{ends_in, ends_of, running}
 use Rattle.man_table.specs.Table.{blank, find_in, live, one_further, store_size, table_of, held_at, room_in}
 use Rattle.man_table.specs.Walk.{Walking, refused, stopped, through, walk_list}
 use Rattle.theorems.specs.Run.{reported}
-use Rattle.theorems.specs.Sound.{All}
-use Rattle.theorems.specs.Story.{Story, gave_to, none, unless_refused}
+use Rattle.theorems.specs.Story.{Story, gave_to, unless_refused}
 use Rattle.theorems.specs.Types.{
   Answer,
-  Taken,
   Decision,
   End,
   Entry,
-  Found,
   Now,
   Outgoing,
   Refusal,
@@ -55,23 +54,25 @@ ends_told l = take-append_seam l _
 abbrev pub At : ℕ → List Connection → ℕ → Type 0
 At node l k = ((get_or l k blank).target_node_id ≡ node) × (k < length l)
 
+abbrev pub OtherNode : ℕ → Connection → Type 0
+OtherNode node c = c.target_node_id ≡ node → ⊥
+
 abbrev pub Absent : ℕ → List Connection → Type 0
-Absent node l = All (λ (c : Connection). c.target_node_id ≡ node → ⊥) l
+Absent node l = All (OtherNode node) l
 
-abbrev pub FoundAs : ℕ → List Connection → Found → Type 0
-FoundAs node l (Found.At k) = At node l k
-FoundAs node l Found.Absent = Absent node l
+abbrev pub FoundAs : ℕ → List Connection → Option ℕ → Type 0
+FoundAs node l f = MatchOption f (Absent node l) (At node l)
 
-further : (node : ℕ) (c : Connection) (l : List Connection) → (c.target_node_id ≡ node → ⊥) → (f : Found) → FoundAs node l f
+further : (node : ℕ) (c : Connection) (l : List Connection) → OtherNode node c → (f : Option ℕ) → FoundAs node l f
     → FoundAs node (c ∷ l) (one_further f)
-further node c l ne (Found.At k) h = (h.0, omega (arith, h.1))
-further node c l ne Found.Absent h = (ne, h)
+further node c l ne (Some k) h = (h.0, omega (arith, h.1))
+further node c l ne None h = All-cons (OtherNode node) c l ne h
 
 pub found_as : (node : ℕ) (l : List Connection) → FoundAs node l (find_in node l)
-found_as node [] = tt
+found_as node [] = All-nil (OtherNode node)
 found_as node (c ∷ l) =
     let rest = found_as node l in
-    decided (FoundAs node (c ∷ l)) (eqb c.target_node_id node) (Found.At 0) _
+    decided (FoundAs node (c ∷ l)) (eqb c.target_node_id node) (Some 0) _
     (λ h. (eqb-true _ _ h, omega arith)) (λ h. further node c l (eqb-false _ _ h) (find_in node l) rest)
 
 -- ---- tick and ask
@@ -103,7 +104,7 @@ module _ (m : Manager) (node : ℕ) (seq : SequenceLayerHeader) (cmd : SdoComman
     (refuses : (r : Refusal) → P m store output (Answer.Refused r) [])
     (unknown : Absent node (live m) → P m store output Answer.Nothing [])
     (answers : (k : ℕ) (d : Connection) → length store ≡ store_size → At node (live m) k
-    → replied (reply_of seq cmd payload (held_at m k) (room_in store (held_at m k))) ≡ Taken.Connection d
+    → replied (reply_of seq cmd payload (held_at m k) (room_in store (held_at m k))) ≡ Ok d
     → P (table_of (running (set (live m) k d)) m.next_transaction_id)
     (with_room store (held_at m k)
     (room_after (reply_of seq cmd payload (held_at m k) (room_in store (held_at m k))) payload (room_in store (held_at m k))))
@@ -116,7 +117,7 @@ module _ (m : Manager) (node : ℕ) (seq : SequenceLayerHeader) (cmd : SdoComman
 
   module _ (long : length store ≡ store_size) (k : ℕ) (at : At node (live m) k) where
     answered : (d : Connection) (x : Decision) → reply_of seq cmd payload (held_at m k) (room_in store (held_at m k)) ≡ x
-        → replied x ≡ Taken.Connection d
+        → replied x ≡ Ok d
         → Replies (record {
           change = putting (Entry.At k d) (value_of d);
           store = with_room store (held_at m k) (room_after x payload (room_in store (held_at m k)));
@@ -130,9 +131,9 @@ module _ (m : Manager) (node : ℕ) (seq : SequenceLayerHeader) (cmd : SdoComman
     decides (Decision.Stores d from) e = answered d (Decision.Stores d from) e refl
     decides Decision.NoRoom e = left (Answer.Refused Refusal.NoRoom) (refuses Refusal.NoRoom)
 
-  found : length store ≡ store_size → (f : Found) → FoundAs node (live m) f → Replies (reply_at f m seq cmd payload store)
-  found long Found.Absent h = left Answer.Nothing (unknown h)
-  found long (Found.At k) h = decides long k h (reply_of seq cmd payload (held_at m k) (room_in store (held_at m k))) refl
+  found : length store ≡ store_size → (f : Option ℕ) → FoundAs node (live m) f → Replies (reply_at f m seq cmd payload store)
+  found long None h = left Answer.Nothing (unknown h)
+  found long (Some k) h = decides long k h (reply_of seq cmd payload (held_at m k) (room_in store (held_at m k))) refl
 
   pub reply_by_lem : Of P (called m store output (replies node seq cmd payload))
   unfolding called reply_from
@@ -142,8 +143,8 @@ module _ (m : Manager) (node : ℕ) (seq : SequenceLayerHeader) (cmd : SdoComman
       (λ e. left (Answer.Refused Refusal.WrongStore) (refuses Refusal.WrongStore))
 
 -- ---- what a reply answers gives no command, and is no refusal
-pub gives_none : (node : ℕ) (output : Bytes) (d : Connection) → gave_to node output (value_of d) ≡ none
-gives_none node output = value_by_lem (λ (a : Answer). gave_to node output a ≡ none) refl (λ part. refl)
+pub gives_none : (node : ℕ) (output : Bytes) (d : Connection) → gave_to node output (value_of d) ≡ None
+gives_none node output = value_by_lem (λ (a : Answer). gave_to node output a ≡ None) refl (λ part. refl)
 
 pub not_refused : (s t : Story) (d : Connection) → t ≡ unless_refused (value_of d) s t
 not_refused s t = value_by_lem (λ (a : Answer). t ≡ unless_refused a s t) refl (λ part. refl)

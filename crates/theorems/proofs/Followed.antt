@@ -1,10 +1,11 @@
 -- A job, followed from its start through any calls. Say what is true while it runs (`Runs`) and what each end must leave (`Ends`); show it at the start,
 -- and that each step of a connection keeps it (`Kept`). Then it is true as long as the job runs, and the end that is reported leaves what it must. One
 -- induction for every job.
+use Rattle.std.specs.Prelude.{Option, Some, None, Result, Ok, Err}
 use Prim.Native.Nat.{ℕ, ◌+◌, ◌%◌}
 use native.Mathlib.Omega.{arith}
 use mathlib.Core.Path.{◌≡◌, refl, sym, ◌∙◌, ap, subst}
-use mathlib.Core.Bool.{Bool, true, false, true≢false}
+use mathlib.Core.Bool.{Bool, true, false}
 use mathlib.Core.List.{List, [], ◌∷◌}
 use mathlib.Core.Logic.{inl, inr}
 use lib.Dec.{eqb}
@@ -28,27 +29,24 @@ use Rattle.connection.specs.Tick.{tick_of}
 use Rattle.manager.specs.Calls.{Call, replies, starts, turns}
 use Rattle.man_table.specs.Table.{live, room_in}
 use Rattle.man_table.specs.Walk.{at_turn}
-use Rattle.theorems.specs.Quiet.{Holding, connection, holding, nothing}
+use Rattle.theorems.specs.Quiet.{Holding, holding}
 use Rattle.theorems.specs.Run.{Event, Host, made, next, reported, run}
 use Rattle.theorems.specs.Sound.{Sane, Sound}
-use Rattle.theorems.specs.Story.{Awaits, Gave, Log, Story, accepted, answered, asked, end_for, follow, free, gave_to, heard, heard_by, none, reply, told, told_by, unless_ended}
+use Rattle.theorems.specs.Story.{Awaits, Gave, Log, Story, accepted, answered, asked, end_for, follow, gave_to, heard, heard_by, told, told_by, unless_ended}
 use Rattle.theorems.specs.Types.{
   Answer,
   Decision,
-  EndFound,
+  End,
   Now,
-  Outcome,
   Outgoing,
-  Outstanding,
   Reason,
+  Refusal,
   SdoClientConnection as Connection,
   SdoClientConnectionState as State,
   SdoCommand,
   SdoJob,
-  Sends,
   SequenceLayerHeader,
-  Stepped,
-  Taken,
+  Step,
   Turn,
 }
 use Rattle.theorems.proofs.AllReached.{event_sound}
@@ -64,27 +62,27 @@ module _ (entries : List Bytes) (Runs : Running) (Ends : Ending) (kept : Kept en
   -- ---- ask and tick
   -- what is held, while the job runs
   pub record On (s : Story) (c : Connection) (room : Bytes) : Type 0 where
-    pub runs : c.outcome ≡ Outcome.Running
+    pub runs : c.outcome ≡ None
     pub awaits : AwaitsAs s.awaits c.waiting.last_sent_command c.last_received_sequence_number
     pub is : Runs s room c.state c.job
 
-  abbrev pub OnBy : Story → Bytes → Connection → Outcome → Type 0
-  OnBy s room d Outcome.Running =
+  abbrev pub OnBy : Story → Bytes → Connection → Option Reason → Type 0
+  OnBy s room d None =
       AwaitsAs s.awaits d.waiting.last_sent_command d.last_received_sequence_number × Runs s room d.state d.job
-  OnBy s room d (Outcome.Ended why) = Ends s room why d.job
+  OnBy s room d (Some why) = Ends s room why d.job
 
   abbrev pub Onward : Story → Bytes → Connection → Type 0
   Onward s room d = OnBy s room d d.outcome
 
-  stay : (s : Story) (room : Bytes) (d : Connection) → d.outcome ≡ Outcome.Running
+  stay : (s : Story) (room : Bytes) (d : Connection) → d.outcome ≡ None
       → AwaitsAs s.awaits d.waiting.last_sent_command d.last_received_sequence_number → Runs s room d.state d.job
       → Onward s room d
   stay s room d e a i = rw e (a, i)
 
-  abbrev StepGoes : Turn → Story → Bytes → Stepped → Type 0
-  StepGoes Turn.Asking s room (Stepped.Went x) = Onward (asked s (gave_by room x.sends)) room x.connection
-  StepGoes Turn.Ticking s room (Stepped.Went x) = Onward s room x.connection
-  StepGoes t s room (Stepped.Refused r) = Unit {0}
+  abbrev StepGoes : Turn → Story → Bytes → Result Step Refusal → Type 0
+  StepGoes Turn.Asking s room (Ok x) = Onward (asked s (gave_by room x.sends)) room x.connection
+  StepGoes Turn.Ticking s room (Ok x) = Onward s room x.connection
+  StepGoes t s room (Err r) = Unit {0}
 
   acknowledges : (c : Connection) {x : State} {sent : ℕ} {o : Outgoing} → Given c x sent o → o.receive ≡ c.last_received_sequence_number
   acknowledges c (opening f e) = refl
@@ -100,16 +98,16 @@ module _ (entries : List Bytes) (Runs : Running) (Ends : Ending) (kept : Kept en
     ask_goes : (n : Now) → StepGoes Turn.Asking s room (ask_of c n)
     ask_goes n = go (ask_view c n)
       where
-        go : {x : Stepped} → AskView c n x → StepGoes Turn.Asking s room x
+        go : {x : Result Step Refusal} → AskView c n x → StepGoes Turn.Asking s room x
         go (silent w) = same
         go (ends f e l p) = kept.finishes s room c e l p on.is
-        go (gives {s = x} {sent} {o} g h) = stay (asked s (gave_by room (Sends.Gives o))) room (after_giving c n x sent o) on.runs (refl, acknowledges c g) (kept.gives s room c g on.is)
+        go (gives {s = x} {sent} {o} g h) = stay (asked s (gave_by room (Some o))) room (after_giving c n x sent o) on.runs (refl, acknowledges c g) (kept.gives s room c g on.is)
         go (late g h) = tt
 
     tick_goes : (n : Now) → StepGoes Turn.Ticking s room (tick_of c n)
     tick_goes n = go (tick_view c n) (tick_leaves c n)
       where
-        go : {x : Stepped} → TickView c n x → Ticked c x → StepGoes Turn.Ticking s room x
+        go : {x : Result Step Refusal} → TickView c n x → Ticked c x → StepGoes Turn.Ticking s room x
         go (never e) l = same
         go (early e h) l = same
         go (over e h r) l =
@@ -127,15 +125,15 @@ module _ (entries : List Bytes) (Runs : Running) (Ends : Ending) (kept : Kept en
       abbrev h : Story
       h = heard entries s seq cmd payload
 
-      abbrev waits : Outstanding
+      abbrev waits : Option Outgoing
       waits = c.waiting.last_sent_command
 
       broken : (why : Reason) → Breaks why → Ends (answered s) room why c.job
       broken why b = kept.breaks (answered s) room c.state c.job (kept.hears s room c.state c.job on.is) why b
 
-      module _ (o : Outgoing) (e : waits ≡ Outstanding.Waits o) where
-        awaited : (s.awaits ≡ reply (sequence_of o) (command_of o)) × (o.receive ≡ c.last_received_sequence_number)
-        awaited = subst (λ (x : Outstanding). AwaitsAs s.awaits x c.last_received_sequence_number) e on.awaits
+      module _ (o : Outgoing) (e : waits ≡ Some o) where
+        awaited : (s.awaits ≡ Some (sequence_of o, command_of o)) × (o.receive ≡ c.last_received_sequence_number)
+        awaited = subst (λ (x : Option Outgoing). AwaitsAs s.awaits x c.last_received_sequence_number) e on.awaits
 
         in_state_lem : c.state ≡ awaiting o.message
         in_state_lem = subst (WaitsIn c.state) e i.waits
@@ -150,23 +148,23 @@ module _ (entries : List Bytes) (Runs : Running) (Ends : Ending) (kept : Kept en
         may = subst MayWait (sym in_state_lem) (waited o.mode o.message o.transaction unclosed).0
 
       -- nothing waits where the command was cleared
-      lets_go : (t : Story) (b : Bytes) (d : Connection) → t.awaits ≡ free
-          → d.waiting.last_sent_command ≡ Outstanding.Nothing → Leaves Runs Ends t b d → Onward t b d
+      lets_go : (t : Story) (b : Bytes) (d : Connection) → t.awaits ≡ None
+          → d.waiting.last_sent_command ≡ None → Leaves Runs Ends t b d → Onward t b d
       lets_go t b d f k = go d.outcome
         where
-          go : (y : Outcome) → LeavesBy Runs Ends t b d y → OnBy t b d y
-          go Outcome.Running l =
-              (subst (λ (w : Outstanding). AwaitsAs t.awaits w d.last_received_sequence_number) (sym k) f, l)
-          go (Outcome.Ended why) l = l
+          go : (y : Option Reason) → LeavesBy Runs Ends t b d y → OnBy t b d y
+          go None l =
+              (subst (λ (w : Option Outgoing). AwaitsAs t.awaits w d.last_received_sequence_number) (sym k) f, l)
+          go (Some why) l = l
 
       -- what the story hears
-      hears_nothing : waits ≡ Outstanding.Nothing → h ≡ s
+      hears_nothing : waits ≡ None → h ≡ s
       hears_nothing e =
           ap (λ (x : Awaits). heard_by entries x s seq cmd payload)
-          (subst (λ (x : Outstanding). AwaitsAs s.awaits x c.last_received_sequence_number) e on.awaits)
+          (subst (λ (x : Option Outgoing). AwaitsAs s.awaits x c.last_received_sequence_number) e on.awaits)
 
-      module _ (o : Outgoing) (e : waits ≡ Outstanding.Waits o) where
-        hears_for : h ≡ heard_by entries (reply (sequence_of o) (command_of o)) s seq cmd payload
+      module _ (o : Outgoing) (e : waits ≡ Some o) where
+        hears_for : h ≡ heard_by entries (Some (sequence_of o, command_of o)) s seq cmd payload
         hears_for = ap (λ (x : Awaits). heard_by entries x s seq cmd payload) (awaited o e).0
 
         hears_other : (seq.receive_sequence_number ≡ o.send → ⊥) → h ≡ s
@@ -187,32 +185,32 @@ module _ (entries : List Bytes) (Runs : Running) (Ends : Ending) (kept : Kept en
               ) refl
 
           module _ (g : seq.send_sequence_number ≡ (c.last_received_sequence_number + 1) % 64) where
-            hears_mark : cmd.header.is_aborted ≡ true → h ≡ answered s
+            hears_next : h
+                ≡ pick cmd.header.is_aborted (answered s)
+                (accepted entries (is_opening (command_of o).header.command_id) s cmd.header.segmentation payload)
             unfolding pick
-            hears_mark a =
+            hears_next =
                 hears_for
                 ∙ rw (
                   eq-eqb seq.receive_sequence_number o.send f,
                   eq-eqb seq.send_sequence_number ((o.receive + 1) % 64) (g ∙ sym successor),
-                  a,
                 ) refl
+
+            hears_mark : cmd.header.is_aborted ≡ true → h ≡ answered s
+            unfolding pick
+            hears_mark a = hears_next ∙ rw a refl
 
             hears_accepted : cmd.header.is_aborted ≡ false
                 → h ≡ accepted entries (opens c.state) s cmd.header.segmentation payload
             unfolding pick
             hears_accepted a =
-                hears_for
-                ∙ rw (
-                  eq-eqb seq.receive_sequence_number o.send f,
-                  eq-eqb seq.send_sequence_number ((o.receive + 1) % 64) (g ∙ sym successor),
-                  a,
-                ) (ap (λ (b : Bool). accepted entries b s cmd.header.segmentation payload) (opens_as o e))
+                hears_next ∙ rw a (ap (λ (b : Bool). accepted entries b s cmd.header.segmentation payload) (opens_as o e))
 
-      accepted_free : (b : Bool) → (accepted entries b s cmd.header.segmentation payload).awaits ≡ free
+      accepted_free : (b : Bool) → (accepted entries b s cmd.header.segmentation payload).awaits ≡ None
       accepted_free true = refl
       accepted_free false = refl
 
-      took : (t : Story) → t.awaits ≡ free → (x : Decision) → Clear x → Decides Runs Ends t payload room x → Replied t payload x
+      took : (t : Story) → t.awaits ≡ None → (x : Decision) → Clear x → Decides Runs Ends t payload room x → Replied t payload x
       took t f (Decision.Keeps d) k l = lets_go t room d f k l
       took t f (Decision.Stores d from) k l = lets_go t (placed room from payload) d f k l
       took t f Decision.NoRoom k l = tt
@@ -243,16 +241,16 @@ module _ (entries : List Bytes) (Runs : Running) (Ends : Ending) (kept : Kept en
               (kept.takes s room d seq cmd.header.segmentation payload i.loads on.runs (may o e) on.is))
 
       -- a reply that was taken
-      abbrev TakenGoes : Bytes → Taken → Type 0
-      TakenGoes b (Taken.Connection d) = Onward h b d
-      TakenGoes b (Taken.Refused r) = Unit {0}
+      abbrev TakenGoes : Bytes → Result Connection Refusal → Type 0
+      TakenGoes b (Ok d) = Onward h b d
+      TakenGoes b (Err r) = Unit {0}
 
       taken_goes : (x : Decision) → Replied h payload x → TakenGoes (room_after x payload room) (replied x)
       taken_goes (Decision.Keeps d) l = l
       taken_goes (Decision.Stores d from) l = l
       taken_goes Decision.NoRoom l = tt
 
-      pub reply_onward : (d : Connection) → replied (reply_of seq cmd payload c room) ≡ Taken.Connection d
+      pub reply_onward : (d : Connection) → replied (reply_of seq cmd payload c room) ≡ Ok d
           → Onward h (room_after (reply_of seq cmd payload c room) payload room) d
       reply_onward d e =
           subst (TakenGoes (room_after (reply_of seq cmd payload c room) payload room)) e (taken_goes (reply_of seq cmd payload c room) reply_goes)
@@ -264,24 +262,24 @@ module _ (entries : List Bytes) (Runs : Running) (Ends : Ending) (kept : Kept en
     pub ends : Ends s room why job
     pub figure_is : figure ≡ job.delivered
 
-  abbrev pub Going : Story → EndFound → Holding → Bytes → Type 0
-  Going s EndFound.Running nothing b = ⊥
-  Going s EndFound.Running (connection d room) b = (room ≡ b) × On s d room
-  Going s (EndFound.End e) g b = Over s e.reason e.delivered b
+  abbrev pub Going : Story → Option End → Holding → Bytes → Type 0
+  Going s None None b = ⊥
+  Going s None (Some (d, room)) b = (room ≡ b) × On s d room
+  Going s (Some e) g b = Over s e.reason e.delivered b
 
   onward : (s : Story) (b : Bytes) (d : Connection) → Onward s b d → Going s (end_of d) (held_after (end_of d) d b) b
   onward s b d = go d.outcome refl
     where
-      go : (x : Outcome) → d.outcome ≡ x → OnBy s b d x → Going s (end_with d x) (held_after (end_with d x) d b) b
-      go Outcome.Running e l = (refl, record { runs = e; awaits = l.0; is = l.1 })
-      go (Outcome.Ended why) e l = record { job = d.job; ends = l; figure_is = refl }
+      go : (x : Option Reason) → d.outcome ≡ x → OnBy s b d x → Going s (end_with d x) (held_after (end_with d x) d b) b
+      go None e l = (refl, record { runs = e; awaits = l.0; is = l.1 })
+      go (Some why) e l = record { job = d.job; ends = l; figure_is = refl }
 
   module _ (node : ℕ) where
-    abbrev Steps : Story → Holding → Call → Answer → Gave → EndFound → Holding → Bytes → Type 0
-    Steps s nothing x a g e i b = Unit {0}
-    Steps s (connection c room) x a g e i b = On s c room → Consistent c room → Going (told_by entries node s x a g) e i b
+    abbrev Steps : Story → Holding → Call → Answer → Gave → Option End → Holding → Bytes → Type 0
+    Steps s None x a g e i b = Unit {0}
+    Steps s (Some (c, room)) x a g e i b = On s c room → Consistent c room → Going (told_by entries node s x a g) e i b
 
-    apart_told : (s : Story) (x : Call) (a : Answer) → Apart node x a → told_by entries node s x a none ≡ s
+    apart_told : (s : Story) (x : Call) (a : Answer) → Apart node x a → told_by entries node s x a None ≡ s
     unfolding pick
     apart_told s (starts k job n) a p = refl
     apart_told s (turns Turn.Asking n) a p = refl
@@ -293,18 +291,18 @@ module _ (entries : List Bytes) (Runs : Running) (Ends : Ending) (kept : Kept en
     apart_told s (replies k seq cmd payload) (Answer.Sent x) (inr p) = absurd p
     apart_told s (replies k seq cmd payload) (Answer.Value part) (inr p) = absurd p
 
-    rest : (s : Story) (h : Holding) (x : Call) (a : Answer) → Apart node x a → Steps s h x a none EndFound.Running h (bytes_of h)
-    rest s nothing x a p = tt
-    rest s (connection c room) x a p = λ on i. (refl, subst (λ (t : Story). On t c room) (sym (apart_told s x a p)) on)
+    rest : (s : Story) (h : Holding) (x : Call) (a : Answer) → Apart node x a → Steps s h x a None None h (bytes_of h)
+    rest s None x a p = tt
+    rest s (Some (c, room)) x a p = λ on i. (refl, subst (λ (t : Story). On t c room) (sym (apart_told s x a p)) on)
 
     -- a start on a job that runs is Busy
     begin : (s : Story) (h : Holding) (x : Call) (a : Answer) (c : Connection) → Seat h c → is_idle c.state ≡ true → (i : Holding) (b : Bytes)
-        → Steps s h x a none EndFound.Running i b
-    begin s nothing x a c seat e i b = tt
-    begin s (connection d room) x a c seat e i b =
-        λ on q. absurd (true≢false (sym e ∙ ap (λ (y : Connection). is_idle y.state) seat ∙ kept.works s room d.state d.job on.is))
+        → Steps s h x a None None i b
+    begin s None x a c seat e i b = tt
+    begin s (Some (d, room)) x a c seat e i b =
+        λ on q. cc (e, seat, kept.works s room d.state d.job on.is)
 
-    step : (s : Story) {h : Holding} {x : Call} {a : Answer} {g : Gave} {e : EndFound} {i : Holding} {b : Bytes} → NodeView node h x a g e i b
+    step : (s : Story) {h : Holding} {x : Call} {a : Answer} {g : Gave} {e : Option End} {i : Holding} {b : Bytes} → NodeView node h x a g e i b
         → Steps s h x a g e i b
     unfolding pick
     step s (rests {h} {x} {a} p) = rest s h x a p
@@ -313,7 +311,7 @@ module _ (entries : List Bytes) (Runs : Running) (Ends : Ending) (kept : Kept en
     step s idles = tt
     step s (steps {t} {n} {a} {c} {d} {room} {x} e) = λ on i. go t e on
       where
-        go : (u : Turn) → at_turn u c n ≡ Stepped.Went (record { connection = d; sends = x }) → On s c room
+        go : (u : Turn) → at_turn u c n ≡ Ok (record { connection = d; sends = x }) → On s c room
             → Going (told_by entries node s (turns u n) a (gave_by room x)) (end_of d) (held_after (end_of d) d room) room
         go Turn.Asking f on = onward _ room d (subst (StepGoes Turn.Asking s room) f (ask_goes s c room on n))
         go Turn.Ticking f on = onward s room d (subst (StepGoes Turn.Ticking s room) f (tick_goes s c room on n))
@@ -327,7 +325,7 @@ module _ (entries : List Bytes) (Runs : Running) (Ends : Ending) (kept : Kept en
     pub record Still (s : Story) (h : Host) : Type 0 where
       pub held_by : Connection
       pub room : Bytes
-      pub held : holding h.manager h.store node ≡ connection held_by room
+      pub held : holding h.manager h.store node ≡ Some (held_by, room)
       pub on : On s held_by room
 
     pub event_goes : (s : Story) (h : Host) → Sound h.manager h.store → Still s h → (x : Event)
@@ -351,9 +349,9 @@ module _ (entries : List Bytes) (Runs : Running) (Ends : Ending) (kept : Kept en
       pub over : Over s why figure room
 
     -- what a log comes to
-    abbrev BringsBy : Outcome → Log → Host → Type 0
-    BringsBy Outcome.Running l h = Still l.story h
-    BringsBy (Outcome.Ended why) l h = Ended l.story why l.figure
+    abbrev BringsBy : Option Reason → Log → Host → Type 0
+    BringsBy None l h = Still l.story h
+    BringsBy (Some why) l h = Ended l.story why l.figure
 
     abbrev pub Brings : Log → Host → Type 0
     Brings l h = BringsBy l.outcome l h
@@ -368,10 +366,10 @@ module _ (entries : List Bytes) (Runs : Running) (Ends : Ending) (kept : Kept en
         t : Story
         t = told entries node s x.call (made h x)
 
-        go : (e : EndFound) (i : Holding) → holding (next h x).manager (next h x).store node ≡ i
+        go : (e : Option End) (i : Holding) → holding (next h x).manager (next h x).store node ≡ i
             → Going t e i (bytes_in (holding h.manager h.store node) (next h x).store)
             → (Still t (next h x) → Brings (follow entries node t (next h x) xs) (run (next h x) xs))
             → Brings (unless_ended e t (follow entries node t (next h x) xs)) (run (next h x) xs)
-        go EndFound.Running nothing f g more = absurd g
-        go EndFound.Running (connection d room) f g more = more (record { held_by = d; room = room; held = f; on = g.1 })
-        go (EndFound.End e) i f g more = record { room = _; over = g }
+        go None None f g more = absurd g
+        go None (Some (d, room)) f g more = more (record { held_by = d; room = room; held = f; on = g.1 })
+        go (Some e) i f g more = record { room = _; over = g }

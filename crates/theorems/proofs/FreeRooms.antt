@@ -1,17 +1,18 @@
 -- The free room of a table: it is a room, and where fewer than eight are held it is nobody's.
+use Rattle.std.specs.Prelude.{All}
 use Prim.Native.Nat.{ℕ, zero, suc, ◌+◌, ◌*◌, ◌≤◌, ◌<◌}
 use native.Mathlib.Omega.{arith}
 use mathlib.Core.Path.{◌≡◌, refl}
-use mathlib.Core.Bool.{Bool, true, false, true≢false}
+use mathlib.Core.Bool.{Bool, true, false}
 use mathlib.Core.List.{List, [], ◌∷◌}
 use lib.Dec.{eqb}
 use lib.ListN.{length}
 use borrow.Author.Tests.{eqb-true, eqb-false, ne_eqb}
+use Rattle.std.proofs.lemmas.List.Elements.{All-cons, All-nil}
 use Rattle.laws.specs.Pick.{pick}
 use Rattle.laws.proofs.Choices.{either}
 use Rattle.man_table.specs.Table.{free_from, free_room, room_size, uses_room}
 use Rattle.theorems.specs.Types.{SdoClientConnection as Connection}
-use Rattle.theorems.proofs.AllLists.{All}
 use Rattle.theorems.proofs.Rooms.{Slotted}
 
 -- ---- it is a room
@@ -25,18 +26,21 @@ unfolding free_room
 free_slotted l = slotted_from 8 0 l refl
 
 -- ---- a room that is not used is nobody's
+abbrev pub OtherRoom : ℕ → Connection → Type 0
+OtherRoom room c = c.room ≡ room → ⊥
+
 abbrev pub Nobodys : ℕ → List Connection → Type 0
-Nobodys room l = All (λ (c : Connection). c.room ≡ room → ⊥) l
+Nobodys room l = All (OtherRoom room) l
 
 nobodys : (room : ℕ) (l : List Connection) → uses_room room l ≡ false → Nobodys room l
 unfolding pick
-nobodys room [] e = tt
+nobodys room [] e = All-nil (OtherRoom room)
 nobodys room (c ∷ l) e = go (eqb c.room room) refl e (nobodys room l)
   where
     go : (b : Bool) → eqb c.room room ≡ b → pick b true (uses_room room l) ≡ false
         → (uses_room room l ≡ false → Nobodys room l) → Nobodys room (c ∷ l)
-    go true h u r = absurd (true≢false u)
-    go false h u r = (eqb-false c.room room h, r u)
+    go true h u r = cc
+    go false h u r = All-cons (OtherRoom room) c l (eqb-false c.room room h) (r u)
 
 -- ---- how many of some rooms are used: no more than connections are held
 abbrev one : Bool → ℕ

@@ -1,5 +1,6 @@
 -- A change of a neat manager done in place is that change.
-use Prim.Native.Nat.{ℕ, zero, suc, ◌-◌, ◌<◌, ◌≤◌}
+use Rattle.std.specs.Prelude.{All, None}
+use Prim.Native.Nat.{ℕ, ◌-◌, ◌<◌}
 use native.Mathlib.Omega.{arith}
 use mathlib.Core.Path.{◌≡◌, refl, sym, ap, ◌∙◌}
 use mathlib.Core.Bool.{Bool, true, false}
@@ -8,6 +9,8 @@ use lib.Dec.{ltb}
 use lib.ListN.{length, replicate, set, length-set}
 use lib.Seq.{set-append_left}
 use borrow.Author.Tests.{ltb-true, ltb-false}
+use Rattle.std.proofs.lemmas.List.Elements.{All-head, All-tail, All-set}
+use Rattle.std.proofs.lemmas.List.{set_past}
 use Rattle.laws.specs.Pick.{pick}
 use Rattle.codec.specs.Bytes.{Bytes}
 use Rattle.laws.proofs.Choices.{either}
@@ -17,29 +20,23 @@ use Rattle.man_table.specs.Table.{blank, live, padded, table_of}
 use Rattle.manager.specs.Change.{answering, change_done, entered, entered_at, leaving, number_after}
 use Rattle.manager.proofs.WalkCalls.{live_table}
 use Rattle.theorems.specs.InPlace.{InPlace, Neat, Runs, Stays, in_place, put_in}
-use Rattle.theorems.specs.Sound.{All, Sane, Sound}
-use Rattle.theorems.specs.Types.{Answer, Change, Done, EndFound, Entry, SdoClientConnection, SdoClientManager}
-use Rattle.theorems.proofs.AllLists.{all_by, all_set}
+use Rattle.theorems.specs.Sound.{Sound}
+use Rattle.theorems.specs.Types.{Answer, Change, Done, Entry, SdoClientConnection, SdoClientManager}
 
-runs_on : (c : SdoClientConnection) → Runs c → end_of c ≡ EndFound.Running
+runs_on : (c : SdoClientConnection) → Runs c → end_of c ≡ None
 runs_on c h = rw h
 
 -- where none has ended nothing is removed and nothing reported
 kept : (l : List SdoClientConnection) → All Runs l → running l ≡ l
 kept [] h = refl
-kept (c ∷ l) h = ap (λ x. unless_end x c (running l)) (runs_on c h.0) ∙ ap (λ x. c ∷ x) (kept l h.1)
+kept (c ∷ l) h = ap (λ x. unless_end x c (running l)) (runs_on c (All-head Runs c l h)) ∙ ap (λ x. c ∷ x) (kept l (All-tail Runs c l h))
 
 unreported : (l : List SdoClientConnection) → All Runs l → ends_in l ≡ []
 unreported [] h = refl
-unreported (c ∷ l) h = ap (λ x. with_end x (ends_in l)) (runs_on c h.0) ∙ unreported l h.1
+unreported (c ∷ l) h = ap (λ x. with_end x (ends_in l)) (runs_on c (All-head Runs c l h)) ∙ unreported l (All-tail Runs c l h)
 
 leaves : (l : List SdoClientConnection) (number : ℕ) (a : Answer) → All Runs l → leaving l number a ≡ answering (table_of l number) a
 leaves l number a h = rw (kept l h, unreported l h)
-
-set_none : (l : List SdoClientConnection) (k : ℕ) (d : SdoClientConnection) → length l ≤ k → set l k d ≡ l
-set_none [] k d h = refl
-set_none (c ∷ l) zero d h = absurd (omega arith)
-set_none (c ∷ l) (suc k) d h = ap (λ x. c ∷ x) (set_none l k d (omega arith))
 
 module _ (m : SdoClientManager) (s : Neat m) where
   array : m.connections ≡ padded (live m)
@@ -74,7 +71,7 @@ module _ (m : SdoClientManager) (s : Neat m) where
           let n : length (set (live m) k d) ≡ m.count = length-set (live m) k d ∙ sym many in
           λ i. record { connections = a i; count = n i; next_transaction_id = number }
       go false e =
-          rw (set_none (live m) k d (omega (arith, ltb-false k m.count e, many))) (stood number)
+          rw (set_past (live m) k d (omega (arith, ltb-false k m.count e, many))) (stood number)
 
   swept_so : table_of (running (live m)) m.next_transaction_id ≡ m
   swept_so = ap (λ (l : List SdoClientConnection). table_of l m.next_transaction_id) (kept (live m) s.each) ∙ sym s.is
@@ -82,7 +79,7 @@ module _ (m : SdoClientManager) (s : Neat m) where
   -- the manager that a change enters its connection into: all of it run on, and it is what stands there
   runs : (e : Entry) → Stays e → All Runs (listed e)
   runs Entry.Nowhere h = s.each
-  runs (Entry.At k d) h = all_set Runs (live m) k d h s.each
+  runs (Entry.At k d) h = All-set Runs (live m) k d h s.each
   runs (Entry.New d) h = absurd h
 
   enters : (e : Entry) (number : ℕ) → Stays e
@@ -106,7 +103,7 @@ module _ (m : SdoClientManager) (s : Neat m) where
       (ap (λ (k : SdoClientManager). answering k c.answer) stands)
 
 sound_neat : (m : SdoClientManager) (store : Bytes) → Sound m store → Neat m
-sound_neat m store s = record { is = s.is; each = all_by (Sane store) Runs (λ c h. h.runs) (live m) s.each }
+sound_neat m store s = record { is = s.is; each = λ k d h. (s.each k d h).runs }
 
 pub in_place_lem : InPlace
 unfolding InPlace

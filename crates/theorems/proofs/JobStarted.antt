@@ -1,15 +1,16 @@
 -- A job from a start that was taken, after any calls: what the start has begun, and what following it brings.
+use Rattle.std.specs.Prelude.{Option, None, Result, Ok, Err, Some}
 use Prim.Native.Nat.{ℕ}
 use mathlib.Core.Path.{◌≡◌, ◌∙◌, refl, subst}
 use mathlib.Core.List.{List, []}
 use mathlib.Core.Logic.{inl, inr}
 use Rattle.codec.specs.Bytes.{Bytes}
 use Rattle.manager.specs.Calls.{After, Call, Job, called, job_room, replies, start_job, starts, turns}
-use Rattle.theorems.specs.Quiet.{Holding, connection, holding}
+use Rattle.theorems.specs.Quiet.{Holding, holding}
 use Rattle.theorems.specs.Run.{Event, Host, made, next, reached, run, starting}
 use Rattle.theorems.specs.Sound.{Reached, Sound}
 use Rattle.theorems.specs.Story.{Gave, Log, follow, untold}
-use Rattle.theorems.specs.Types.{Answer, EndFound, Now, Outcome, SdoClientConnection as Connection, Taken}
+use Rattle.theorems.specs.Types.{Answer, End, Now, Reason, Refusal, SdoClientConnection as Connection}
 use Rattle.theorems.proofs.AllReached.{all_sound, call_sound}
 use Rattle.theorems.proofs.Followed.{Brings, Still, followed}
 use Rattle.theorems.proofs.JobKept.{AwaitsAs, Ending, Kept, Running}
@@ -23,8 +24,8 @@ pub record Started (job : Job) (n : Now) (after : Holding) : Type 0 where
   pub number : ℕ
   pub room : Bytes
   pub begun : Connection
-  pub is : start_job job before number n room ≡ Taken.Connection begun
-  pub held : after ≡ connection begun (job_room job room)
+  pub is : start_job job before number n room ≡ Ok begun
+  pub held : after ≡ Some (begun, job_room job room)
 
 module _ (node : ℕ) where
   abbrev StartsIf : Call → Answer → Holding → Type 0
@@ -44,7 +45,7 @@ module _ (node : ℕ) where
   apart_starts (turns t n) a p after = tt
   apart_starts (replies k seq cmd payload) a p after = tt
 
-  view_starts : {h : Holding} {x : Call} {a : Answer} {g : Gave} {e : EndFound} {i : Holding} {b : Bytes} → NodeView node h x a g e i b
+  view_starts : {h : Holding} {x : Call} {a : Answer} {g : Gave} {e : Option End} {i : Holding} {b : Bytes} → NodeView node h x a g e i b
       → StartsIf x a i
   view_starts (rests {h} {x} {a} p) = apart_starts x a p h
   view_starts unknown = tt
@@ -85,9 +86,9 @@ module _ (lent : Bytes) (earlier : List Event) (node : ℕ) (job : Job) (now : N
         (view_starts node (call_view host.manager host.store before_sound node [] (starts node job now))) refl
 
     -- nothing waits at the start
-    abbrev Fresh : Taken → Type 0
-    Fresh (Taken.Connection d) = AwaitsAs untold.awaits d.waiting.last_sent_command d.last_received_sequence_number
-    Fresh (Taken.Refused r) = Unit {0}
+    abbrev Fresh : Result Connection Refusal → Type 0
+    Fresh (Ok d) = AwaitsAs untold.awaits d.waiting.last_sent_command d.last_received_sequence_number
+    Fresh (Err r) = Unit {0}
 
     module _ (entries : List Bytes) (Runs : Running) (Ends : Ending) (kept : Kept entries Runs Ends)
         (is : Runs untold (job_room job started.room) started.begun.state started.begun.job) where
@@ -112,6 +113,6 @@ module _ (lent : Bytes) (earlier : List Event) (node : ℕ) (job : Job) (now : N
 
 -- a log that runs says what is still held
 pub running : {entries : List Bytes} {Runs : Running} {Ends : Ending} {kept : Kept entries Runs Ends} {node : ℕ} (l : Log) (h : Host)
-    → Brings entries Runs Ends kept node l h → l.outcome ≡ Outcome.Running → Still entries Runs Ends kept node l.story h
+    → Brings entries Runs Ends kept node l h → l.outcome ≡ None → Still entries Runs Ends kept node l.story h
 running {entries} {Runs} {Ends} {kept} {node} l h b e =
-    subst (λ (x : Outcome). Brings entries Runs Ends kept node (record { story = l.story; outcome = x; figure = l.figure }) h) e b
+    subst (λ (x : Option Reason). Brings entries Runs Ends kept node (record { story = l.story; outcome = x; figure = l.figure }) h) e b

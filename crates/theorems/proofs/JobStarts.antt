@@ -1,5 +1,6 @@
 -- What the start of a job comes to, as one of five cases; and of a job that begins: the connection keeps its node and its room, it runs, and the room
 -- with the job's bytes is as long as it was.
+use Rattle.std.specs.Prelude.{Some, Result, Ok, Err}
 use Prim.Native.Nat.{ℕ, ◌≤◌}
 use native.Mathlib.Omega.{arith}
 use mathlib.Core.Path.{◌≡◌, refl, subst}
@@ -14,7 +15,7 @@ use Rattle.connection.specs.Start.{capacity, dcf_job, dcf_transaction, first_cur
 use Rattle.manager.specs.Calls.{Job, job_room, loads, reads, start_job, writes}
 use Rattle.theorems.specs.Causes.{Short, job_bytes}
 use Rattle.theorems.specs.InPlace.{Runs}
-use Rattle.theorems.specs.Types.{Taken, Moment, Now, SdoClientConnection as Connection, SdoJob}
+use Rattle.theorems.specs.Types.{Now, Refusal, SdoClientConnection as Connection, SdoJob}
 use Rattle.theorems.proofs.NodeAndRoom.{TakenSame, Same}
 
 -- the job that begins, and its transaction number
@@ -28,7 +29,7 @@ begun_number (writes mode index sub bytes) t = t
 begun_number (reads mode index sub) t = t
 begun_number (loads mode dcf) t = dcf_transaction (dcf_step dcf (first_cursor dcf)) t
 
-abbrev pub JobView : Job → Connection → ℕ → Now → Bytes → Taken → Type 0
+abbrev pub JobView : Job → Connection → ℕ → Now → Bytes → Result Connection Refusal → Type 0
 JobView job c t n room = StartView c n room (Short job) (job_bytes job) (begun_number job t) (begun_job job)
 
 pub job_view : (job : Job) (c : Connection) (t : ℕ) (n : Now) (room : Bytes) → JobView job c t n room (start_job job c t n room)
@@ -41,18 +42,18 @@ fits (writes mode index sub bytes) room h = placed_length room 0 bytes (omega ar
 fits (reads mode index sub) room h = refl
 fits (loads mode dcf) room h = placed_length room 0 dcf (omega arith)
 
-module _ (job : Job) (c d : Connection) (t : ℕ) (n : Now) (room : Bytes) (e : start_job job c t n room ≡ Taken.Connection d) where
-  abbrev Began : Taken → Type 0
-  Began (Taken.Connection x) =
+module _ (job : Job) (c d : Connection) (t : ℕ) (n : Now) (room : Bytes) (e : start_job job c t n room ≡ Ok d) where
+  abbrev Began : Result Connection Refusal → Type 0
+  Began (Ok x) =
       (is_idle c.state ≡ true)
       × (job_bytes job ≤ capacity room)
-      × (started_at (Moment.At (due_at n)) c (begun_number job t) n (begun_job job) ≡ Taken.Connection x)
-  Began (Taken.Refused r) = Unit {0}
+      × (started_at (Some (due_at n)) c (begun_number job t) n (begun_job job) ≡ Ok x)
+  Began (Err r) = Unit {0}
 
-  pub began : Began (Taken.Connection d)
+  pub began : Began (Ok d)
   began = subst Began e (go (job_view job c t n room))
     where
-      go : {x : Taken} → JobView job c t n room x → Began x
+      go : {x : Result Connection Refusal} → JobView job c t n room x → Began x
       go (busy i) = tt
       go (short i s) = tt
       go (full i s h) = tt
@@ -65,9 +66,9 @@ module _ (job : Job) (c d : Connection) (t : ℕ) (n : Now) (room : Bytes) (e : 
   pub started_runs : Runs d
   started_runs = subst RunsIf began.2 refl
     where
-      RunsIf : Taken → Type 0
-      RunsIf (Taken.Connection x) = Runs x
-      RunsIf (Taken.Refused r) = Unit {0}
+      RunsIf : Result Connection Refusal → Type 0
+      RunsIf (Ok x) = Runs x
+      RunsIf (Err r) = Unit {0}
 
   pub started_room : length (job_room job room) ≡ length room
   started_room = fits job room began.1

@@ -1,4 +1,6 @@
 -- Every call leaves a neat manager neat, with any store.
+use Rattle.std.specs.Prelude.{All, Option, Some, None}
+use Rattle.std.proofs.lemmas.List.Elements.{All-cons, All-nil, All-set}
 use Prim.Native.Nat.{ℕ}
 use mathlib.Core.Path.{◌≡◌, refl, sym, ap, subst}
 use mathlib.Core.List.{List, [], ◌∷◌}
@@ -10,10 +12,9 @@ use Rattle.man_table.specs.Table.{held_at, insert_in, live, place_in, room_in, t
 use Rattle.manager.specs.Calls.{Call, called, number_of, replies, starts, turns}
 use Rattle.manager.proofs.WalkCalls.{live_table}
 use Rattle.theorems.specs.InPlace.{Neat, Runs}
-use Rattle.theorems.specs.Sound.{All}
-use Rattle.theorems.specs.Types.{Outcome, SdoClientConnection as Connection, SdoClientManager as Manager}
+use Rattle.theorems.specs.Types.{Reason, SdoClientConnection as Connection, SdoClientManager as Manager}
 use Rattle.theorems.specs.Untouched.{stepped}
-use Rattle.theorems.proofs.AllLists.{all_insert, all_set}
+use Rattle.theorems.proofs.AllLists.{all_insert}
 use Rattle.theorems.proofs.Cases.{Shown, reply_by_lem, turn_by}
 use Rattle.theorems.proofs.JobStarts.{started_runs}
 use Rattle.theorems.proofs.StartBy.{fresh, start_by}
@@ -25,12 +26,12 @@ neat_table l number a =
 
 -- what a sweep leaves
 running_runs : (l : List Connection) → All Runs (running l)
-running_runs [] = tt
+running_runs [] = All-nil Runs
 running_runs (c ∷ l) = go c.outcome refl (running_runs l)
   where
-    go : (x : Outcome) → c.outcome ≡ x → All Runs (running l) → All Runs (unless_end (end_with c x) c (running l))
-    go Outcome.Running e r = (e, r)
-    go (Outcome.Ended why) e r = r
+    go : (x : Option Reason) → c.outcome ≡ x → All Runs (running l) → All Runs (unless_end (end_with c x) c (running l))
+    go None e r = All-cons Runs c (running l) e r
+    go (Some why) e r = r
 
 pub swept_neat : (l : List Connection) (number : ℕ) → Neat (table_of (running l) number)
 swept_neat l number = neat_table (running l) number (running_runs l)
@@ -56,7 +57,7 @@ module _ (m : Manager) (neat : Neat m) (store output : Bytes) where
       start_by m node job n store output Leaves (λ r e. neat) (λ r e k f. counts_neat)
       (λ k d long at e.
       neat_table (set (live m) k d) (number_of m)
-      (all_set Runs (live m) k d (started_runs job (held_at m k) d (number_of m) n (room_in store (held_at m k)) e) neat.each))
+      (All-set Runs (live m) k d (started_runs job (held_at m k) d (number_of m) n (room_in store (held_at m k)) e) neat.each))
       (λ d long none few e. inserted d (started_runs job (fresh m node) d (number_of m) n (room_in store (fresh m node)) e))
       (λ r e f none few. inserted (fresh m node) refl)
   call_neat (turns t n) =

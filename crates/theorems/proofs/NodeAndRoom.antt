@@ -1,4 +1,5 @@
 -- What no call of a connection changes: its node and its room; and what a reply does not change besides: what the job reads.
+use Rattle.std.specs.Prelude.{Option, Some, None, Result, Ok, Err}
 use mathlib.Core.Path.{◌≡◌, refl, subst}
 use lib.Dec.{leb}
 use lib.ListN.{take}
@@ -12,15 +13,15 @@ use Rattle.con_reply.specs.Reply.{cleared, replied, reply_next, reply_of, reply_
 use Rattle.laws.proofs.Choices.{either}
 use Rattle.con_rec.specs.Parts.{total}
 use Rattle.theorems.specs.Types.{
-  Taken,
   DcfStep,
   Decision,
-  LoadedTransfer,
   Now,
+  Refusal,
   SdoClientConnection as Connection,
   SdoCommand,
   SequenceLayerHeader,
-  Stepped,
+  Step,
+  Transfer,
 }
 
 -- the second connection has the node and the room of the first
@@ -28,9 +29,9 @@ abbrev pub Same : Connection → Connection → Type 0
 Same c d = (d.target_node_id ≡ c.target_node_id) × (d.room ≡ c.room)
 
 -- what holds of a connection and the one that a step makes of it
-abbrev pub StepBy : (Connection → Connection → Type 0) → Connection → Stepped → Type 0
-StepBy R c (Stepped.Went s) = R c s.connection
-StepBy R c (Stepped.Refused r) = Unit {0}
+abbrev pub StepBy : (Connection → Connection → Type 0) → Connection → Result Step Refusal → Type 0
+StepBy R c (Ok s) = R c s.connection
+StepBy R c (Err r) = Unit {0}
 
 -- and its job reads the same
 abbrev pub SameRead : Connection → Connection → Type 0
@@ -41,13 +42,13 @@ DecisionSame c (Decision.Keeps d) = SameRead c d
 DecisionSame c (Decision.Stores d from) = SameRead c d
 DecisionSame c Decision.NoRoom = Unit {0}
 
-abbrev pub TakenSame : Connection → Taken → Type 0
-TakenSame c (Taken.Connection d) = Same c d
-TakenSame c (Taken.Refused r) = Unit {0}
+abbrev pub TakenSame : Connection → Result Connection Refusal → Type 0
+TakenSame c (Ok d) = Same c d
+TakenSame c (Err r) = Unit {0}
 
-abbrev TakenRead : Connection → Taken → Type 0
-TakenRead c (Taken.Connection d) = SameRead c d
-TakenRead c (Taken.Refused r) = Unit {0}
+abbrev TakenRead : Connection → Result Connection Refusal → Type 0
+TakenRead c (Ok d) = SameRead c d
+TakenRead c (Err r) = Unit {0}
 
 module _ (c : Connection) where
   same : Same c c
@@ -56,7 +57,7 @@ module _ (c : Connection) where
   pub ask_same : (n : Now) → StepBy Same c (ask_of c n)
   ask_same n = go (ask_view c n)
     where
-      go : {x : Stepped} → AskView c n x → StepBy Same c x
+      go : {x : Result Step Refusal} → AskView c n x → StepBy Same c x
       go (silent w) = same
       go (ends f s l p) = same
       go (gives g h) = same
@@ -65,7 +66,7 @@ module _ (c : Connection) where
   pub tick_same : (n : Now) → StepBy Same c (tick_of c n)
   tick_same n = go (tick_view c n)
     where
-      go : {x : Stepped} → TickView c n x → StepBy Same c x
+      go : {x : Result Step Refusal} → TickView c n x → StepBy Same c x
       go (never e) = same
       go (early e h) = same
       go (over e h r) = same
@@ -77,14 +78,14 @@ module _ (c : Connection) where
   same_read = (same, refl)
 
   next_same : (d : DcfStep) → SameRead c (reply_next d c)
-  next_same (DcfStep.Entry index sub start len next) = same_read
+  next_same (DcfStep.Entry entry next) = same_read
   next_same DcfStep.End = same_read
   next_same DcfStep.Unreadable = same_read
 
-  sent_same : (room : Bytes) (x : LoadedTransfer) → SameRead c (reply_sent x room c)
-  sent_same room (LoadedTransfer.Loaded t) =
+  sent_same : (room : Bytes) (x : Option Transfer) → SameRead c (reply_sent x room c)
+  sent_same room (Some t) =
       either (SameRead c) (leb (total t) c.job.offset) _ c (next_same (dcf_step (take c.job.size room) c.job.cursor)) same_read
-  sent_same room LoadedTransfer.Unloaded = same_read
+  sent_same room None = same_read
 
 reply_same : (c : Connection) (seq : SequenceLayerHeader) (cmd : SdoCommand) (payload room : Bytes)
     → DecisionSame c (reply_of seq cmd payload c room)
@@ -104,7 +105,7 @@ reply_same c seq cmd payload room =
     })
 
 pub replied_read : (seq : SequenceLayerHeader) (cmd : SdoCommand) (payload : Bytes) (c : Connection) (room : Bytes) (d : Connection)
-    → replied (reply_of seq cmd payload c room) ≡ Taken.Connection d → SameRead c d
+    → replied (reply_of seq cmd payload c room) ≡ Ok d → SameRead c d
 replied_read seq cmd payload c room d e =
     subst (TakenRead c) e (go (reply_of seq cmd payload c room) (reply_same c seq cmd payload room))
   where
@@ -114,5 +115,5 @@ replied_read seq cmd payload c room d e =
     go Decision.NoRoom h = tt
 
 pub replied_same : (seq : SequenceLayerHeader) (cmd : SdoCommand) (payload : Bytes) (c : Connection) (room : Bytes) (d : Connection)
-    → replied (reply_of seq cmd payload c room) ≡ Taken.Connection d → Same c d
+    → replied (reply_of seq cmd payload c room) ≡ Ok d → Same c d
 replied_same seq cmd payload c room d e = (replied_read seq cmd payload c room d e).0

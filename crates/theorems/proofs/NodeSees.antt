@@ -1,4 +1,7 @@
 -- Every call is one of the cases of `NodeView`: from a sound table with its order, its rooms and its walk to what one node sees of it.
+use Rattle.std.specs.Prelude.{All, Option, Some, None, Ok}
+use Rattle.std.proofs.lemmas.List.Elements.{All-head, All-tail}
+use Rattle.std.proofs.lemmas.Option.{some_pair_parts}
 use Prim.Native.Nat.{ℕ, ◌≤◌, ◌<◌}
 use native.Mathlib.Decide.{ℕ_discrete}
 use native.Mathlib.Omega.{arith}
@@ -24,31 +27,28 @@ use Rattle.manager.proofs.WalkCalls.{live_table}
 use Rattle.man_table.specs.Sweep.{ends_in, running}
 use Rattle.man_table.specs.Table.{blank, find_in, free_room, held_at, insert_in, live, room_in, store_size, table_of}
 use Rattle.man_table.specs.Walk.{Walking, stopped, through, walk_list}
-use Rattle.theorems.specs.Quiet.{Holding, connection, holding, holding_in, nothing}
+use Rattle.theorems.specs.Quiet.{Holding, holding, holding_in}
 use Rattle.theorems.specs.Run.{Event, Host, Lends, another, made, next, own, reported}
-use Rattle.theorems.specs.Sound.{All, Sane, Slotted, Sound}
-use Rattle.theorems.specs.Story.{Gave, command, end_for, gave_to, none}
+use Rattle.theorems.specs.Sound.{Sane, Sound}
+use Rattle.theorems.specs.Story.{Gave, end_for, gave_to}
 use Rattle.theorems.specs.Types.{
   Answer,
-  EndFound,
-  Found,
+  End,
   Now,
   Outgoing,
   Refusal,
   SdoClientConnection as Connection,
   SdoClientManager as Manager,
   SdoCommand,
-  Sends,
   SequenceLayerHeader,
-  Taken,
   Turn,
 }
-use Rattle.theorems.proofs.AllLists.{all_at, all_by, all_each}
-use Rattle.theorems.proofs.Cases.{Absent, At, FoundAs, Of, Shown, found_as, gives_none, reply_by_lem, turn_by}
+use Rattle.theorems.proofs.AllLists.{all_each}
+use Rattle.theorems.proofs.Cases.{Absent, At, FoundAs, Of, OtherNode, Shown, found_as, gives_none, reply_by_lem, turn_by}
 use Rattle.theorems.proofs.FreeRooms.{free_nobodys}
 use Rattle.theorems.proofs.JobStarts.{started_room, started_same}
 use Rattle.theorems.proofs.NodeAndRoom.{Same, replied_same}
-use Rattle.theorems.proofs.OrderedTables.{nowhere, ordered_tracks}
+use Rattle.theorems.proofs.OrderedTables.{InSlot, nowhere, ordered_tracks}
 use Rattle.theorems.proofs.OthersQuiet.{reply_quiet, start_quiet}
 use Rattle.theorems.proofs.Rooms.{put_own, room_at, room_length}
 use Rattle.theorems.proofs.StartBy.{fresh, start_by, start_on, store_with}
@@ -69,7 +69,7 @@ use Rattle.theorems.proofs.WrongStore.{wrong_store}
 use Rattle.theorems.proofs.NodeView.{Apart, NodeView, Seat, answers, begins, bytes_in, bytes_of, gave_by, idles, rests, steps, unknown}
 
 -- ---- the payload at the start of the output is the one that was put there
-read_out : (output room : Bytes) (o : Outgoing) → output_size ≤ length output → Sized room (Sends.Gives o)
+read_out : (output room : Bytes) (o : Outgoing) → output_size ≤ length output → Sized room (Some o)
     → take (command_of o).header.segment_size (buffer_after (payload_of room o) output) ≡ payload_of room o
 unfolding buffer_after pick
 read_out output room o long z =
@@ -79,21 +79,17 @@ read_out output room o long z =
 
 -- ---- what is held is a connection of the table, with the bytes of its room
 pub held_is : (node : ℕ) (store : Bytes) (P : Connection → Type 0) (l : List Connection) → All P l → (c : Connection) (room : Bytes)
-    → holding_in node l store ≡ connection c room → P c × (room ≡ room_in store c)
+    → holding_in node l store ≡ Some (c, room) → P c × (room ≡ room_in store c)
 unfolding pick
-held_is node store P [] a c room e = let z : ◌≡◌ {A = ℕ} 0 1 = cc e in absurd (omega arith)
-held_is node store P (x ∷ l) a c room e = go (eqb x.target_node_id node) e (held_is node store P l a.1 c room)
+held_is node store P [] a c room e = cc
+held_is node store P (x ∷ l) a c room e = go (eqb x.target_node_id node) e (held_is node store P l (All-tail P x l a) c room)
   where
-    go : (b : Bool) → pick b (connection x (room_in store x)) (holding_in node l store) ≡ connection c room
-        → (holding_in node l store ≡ connection c room → P c × (room ≡ room_in store c)) → P c × (room ≡ room_in store c)
+    go : (b : Bool) → pick b (Some (x, room_in store x)) (holding_in node l store) ≡ Some (c, room)
+        → (holding_in node l store ≡ Some (c, room) → P c × (room ≡ room_in store c)) → P c × (room ≡ room_in store c)
     go true h more =
-        let same : x ≡ c = cc h in
-        let bytes : room_in store x ≡ room = cc h in (subst P same a.0, sym bytes ∙ ap (room_in store) same)
+        let same = some_pair_parts x c (room_in store x) room h in
+        (subst P same.0 (All-head P x l a), sym same.1 ∙ ap (room_in store) same.0)
     go false h more = more h
-
-all_any : (l : List Connection) → All (λ (c : Connection). Unit {0}) l
-all_any [] = tt
-all_any (c ∷ l) = (tt, all_any l)
 
 module _ (m : Manager) (store : Bytes) (sound : Sound m store) (node : ℕ) where
   abbrev before : Holding
@@ -103,32 +99,32 @@ module _ (m : Manager) (store : Bytes) (sound : Sound m store) (node : ℕ) wher
   Sees-by x k after out a es = NodeView node before x a (gave_to node out a) (end_for node es) (holding k after node) (bytes_in before after)
 
   -- a view, its parts replaced by equal ones
-  seen : {h g : Holding} {x : Call} {a : Answer} {u v : Gave} {e f : EndFound} {i j : Holding} {p q : Bytes} → h ≡ g → u ≡ v → e ≡ f → i ≡ j
+  seen : {h g : Holding} {x : Call} {a : Answer} {u v : Gave} {e f : Option End} {i j : Holding} {p q : Bytes} → h ≡ g → u ≡ v → e ≡ f → i ≡ j
       → p ≡ q → NodeView node h x a u e i p → NodeView node g x a v f j q
   seen {h} {g} {x} {a} {u} {v} {e} {f} {i} {j} {p} {q} hg uv ef ij pq view =
       subst (λ (y : Holding). NodeView node y x a v f j q) hg
       (subst (λ (y : Gave). NodeView node h x a y f j q) uv
-      (subst (λ (y : EndFound). NodeView node h x a u y j q) ef
+      (subst (λ (y : Option End). NodeView node h x a u y j q) ef
       (subst (λ (y : Holding). NodeView node h x a u e y q) ij (subst (NodeView node h x a u e i) pq view))))
 
   -- where the same is held after, its room has the same bytes
   bytes_stay : (k : Manager) (after : Bytes) → holding k after node ≡ before → bytes_of before ≡ bytes_in before after
-  bytes_stay k after e = go before (λ c room i. (held_is node after _ (live k) (all_any (live k)) c room i).1) e
+  bytes_stay k after e = go before (λ c room i. (held_is node after (λ (x : Connection). Unit {0}) (live k) (λ j d h. tt) c room i).1) e
     where
-      go : (h : Holding) → ((c : Connection) (room : Bytes) → holding k after node ≡ connection c room → room ≡ room_in after c)
+      go : (h : Holding) → ((c : Connection) (room : Bytes) → holding k after node ≡ Some (c, room) → room ≡ room_in after c)
           → holding k after node ≡ h → bytes_of h ≡ bytes_in h after
-      go nothing f i = refl
-      go (connection c room) f i = f c room i
+      go None f i = refl
+      go (Some (c, room)) f i = f c room i
 
-  stays : {x : Call} {a : Answer} → Apart node x a → NodeView node before x a none EndFound.Running before (bytes_in before store)
+  stays : {x : Call} {a : Answer} → Apart node x a → NodeView node before x a None None before (bytes_in before store)
   stays p = seen refl refl refl refl (bytes_stay m store refl) (rests p)
 
-  slots : All (λ (c : Connection). Slotted c.room) (live m)
-  slots = all_by (Sane store) (λ (c : Connection). Slotted c.room) (λ c s. s.slotted) (live m) sound.each
+  slots : All InSlot (live m)
+  slots = λ k d h. (sound.each k d h).slotted
 
   -- ---- it is not held
   module _ (absent : Absent node (live m)) where
-    unheld : before ≡ nothing
+    unheld : before ≡ None
     unheld = nothing_held node store (live m) absent
 
     -- a walk of the others
@@ -137,16 +133,16 @@ module _ (m : Manager) (store : Bytes) (sound : Sound m store) (node : ℕ) wher
     absent_walk t n output =
         turn_by t m n store output (Sees-by (turns t n)) (λ r. stays tt)
         (λ l long fits e.
-        let none-there : Absent node l = all_each _ Same away (live m) l (walked (through l) e) absent in
+        let none-there : Absent node l = all_each (OtherNode node) Same away (live m) l (walked (through l) e) absent in
         seen refl refl (sym (no_end_lem node store l none-there)) (after l none-there) (bytes_stay m store refl) (rests tt))
         (λ k o l long fits e.
         let by : WalkBy Same (live m) (stopped k o l) = walked (stopped k o l) e in
-        let none-there : Absent node l = all_each _ Same away (live m) l by.0 absent in
+        let none-there : Absent node l = all_each (OtherNode node) Same away (live m) l by.0 absent in
         seen refl
-        (rw (ne_eqb (get_or l k blank).target_node_id node (all_at _ l k blank by.1 none-there)) refl)
+        (rw (ne_eqb (get_or l k blank).target_node_id node (none-there k blank by.1)) refl)
         (sym (no_end_lem node store l none-there)) (after l none-there) (bytes_stay m store refl) (rests tt))
       where
-        away : (x y : Connection) → Same x y → (x.target_node_id ≡ node → ⊥) → y.target_node_id ≡ node → ⊥
+        away : (x y : Connection) → Same x y → OtherNode node x → OtherNode node y
         away x y s ne e = ne (sym s.0 ∙ e)
 
         walked : (w : Walking) → walk_list t n (live m) ≡ w → WalkBy Same (live m) w
@@ -157,7 +153,7 @@ module _ (m : Manager) (store : Bytes) (sound : Sound m store) (node : ℕ) wher
             unheld
             ∙ sym
             (ap (λ (x : List Connection). holding_in node x store) (live_table (running l) m.next_transaction_id)
-            ∙ nothing_held node store (running l) (all_running _ l a))
+            ∙ nothing_held node store (running l) (all_running (OtherNode node) l a))
 
   -- ---- it is held
   module _ (k : ℕ) (at : At node (live m) k) where
@@ -170,19 +166,19 @@ module _ (m : Manager) (store : Bytes) (sound : Sound m store) (node : ℕ) wher
     stands : Tracks node c.room (λ (y : Connection). y ≡ c) (live m)
     stands = ordered_tracks node (live m) sound.ordered slots k at
 
-    held : before ≡ connection c room
+    held : before ≡ Some (c, room)
     held = tracked_holding node c.room store c stands
 
     sane : Sane store c
-    sane = all_at (Sane store) (live m) k blank at.1 sound.each
+    sane = sound.each k blank at.1
 
     module _ (t : Turn) (n : Now) where
-      turned_view : {x : Sends} {d : Connection} (a : Answer) → Turned t n c x d
-          → NodeView node (connection c room) (turns t n) a (gave_by room x) (end_of d) (held_after (end_of d) d room) room
+      turned_view : {x : Option Outgoing} {d : Connection} (a : Answer) → Turned t n c x d
+          → NodeView node (Some (c, room)) (turns t n) a (gave_by room x) (end_of d) (held_after (end_of d) d room) room
       turned_view a unreached = rw sane.runs (rests tt)
       turned_view a (stepped e) = steps e
 
-      turned_same : {x : Sends} {d : Connection} → Turned t n c x d → Same c d
+      turned_same : {x : Option Outgoing} {d : Connection} → Turned t n c x d → Same c d
       turned_same unreached = (refl, refl)
       turned_same (stepped e) = subst (StepBy Same c) e (turn_same t n c)
 
@@ -190,7 +186,7 @@ module _ (m : Manager) (store : Bytes) (sound : Sound m store) (node : ℕ) wher
       walked w e = subst (Sees t n node c.room c) e (walk_sees t n node c.room c stands)
 
       -- after the sweep
-      swept : {u : Gave} {x : Sends} (a : Answer) (l : List Connection) → gave_by room x ≡ u → Walked t n node c.room c x l
+      swept : {u : Gave} {x : Option Outgoing} (a : Answer) (l : List Connection) → gave_by room x ≡ u → Walked t n node c.room c x l
           → NodeView node before (turns t n) a u (end_for node (ends_in l)) (holding (table_of (running l) m.next_transaction_id) store node) (bytes_in before store)
       swept a l g w =
           let s = sweep node c.room store w.then w.tracks in
@@ -199,16 +195,16 @@ module _ (m : Manager) (store : Bytes) (sound : Sound m store) (node : ℕ) wher
           (ap (λ (h : Holding). bytes_in h store) (sym held)) (turned_view a w.turned)
 
       -- what the walk gives
-      given : (output : Bytes) → output_size ≤ length output → (o : Outgoing) (d : Connection) → Turned t n c (Sends.Gives o) d
-          → Sized (room_in store d) (Sends.Gives o) → gave_by room (Sends.Gives o) ≡ gave_to node (buffer_after (payload_of (room_in store d) o) output) (sent_to d o)
+      given : (output : Bytes) → output_size ≤ length output → (o : Outgoing) (d : Connection) → Turned t n c (Some o) d
+          → Sized (room_in store d) (Some o) → gave_by room (Some o) ≡ gave_to node (buffer_after (payload_of (room_in store d) o) output) (sent_to d o)
       unfolding pick
       given output fits o d u z =
           let s : Same c d = turned_same u in
           rw (eq-eqb d.target_node_id node (s.0 ∙ at.0))
-          (ap (λ (b : Bytes). command (sequence_of o) (command_of o) (payload_of b o)) (ap (room_at store) (sym s.1))
-          ∙ ap (command (sequence_of o) (command_of o)) (sym (read_out output (room_in store d) o fits z)))
+          (ap (λ (b : Bytes). Some (sequence_of o, command_of o, payload_of b o)) (ap (room_at store) (sym s.1))
+          ∙ ap (λ (b : Bytes). Some (sequence_of o, command_of o, b)) (sym (read_out output (room_in store d) o fits z)))
 
-      given_other : (output : Bytes) (o : Outgoing) (d : Connection) → Other node c.room d → none ≡ gave_to node output (sent_to d o)
+      given_other : (output : Bytes) (o : Outgoing) (d : Connection) → Other node c.room d → None ≡ gave_to node output (sent_to d o)
       unfolding pick
       given_other output o d x = rw (ne_eqb d.target_node_id node x.node_differs) refl
 
@@ -220,14 +216,14 @@ module _ (m : Manager) (store : Bytes) (sound : Sound m store) (node : ℕ) wher
           stops j o l fits (subst (WalkSized store) e (walk_sized t n store (live m) sound.each)) (walked (stopped j o l) e))
         where
           stops : (j : ℕ) (o : Outgoing) (l : List Connection) → output_size ≤ length output
-              → Sized (room_in store (get_or l j blank)) (Sends.Gives o)
-              → Gives t n node c.room c j o l ⊎ (Walked t n node c.room c Sends.Silent l × Other node c.room (get_or l j blank))
+              → Sized (room_in store (get_or l j blank)) (Some o)
+              → Gives t n node c.room c j o l ⊎ (Walked t n node c.room c None l × Other node c.room (get_or l j blank))
               → Sees-by (turns t n) (table_of (running l) m.next_transaction_id) store
               (buffer_after (payload_of (room_in store (get_or l j blank)) o) output) (sent_to (get_or l j blank) o) (ends_in l)
           stops j o l fits z (inl g) =
               swept _ l
               (given output fits o g.walked.then g.walked.turned
-              (subst (λ (d : Connection). Sized (room_in store d) (Sends.Gives o)) g.is z)
+              (subst (λ (d : Connection). Sized (room_in store d) (Some o)) g.is z)
               ∙ ap (λ (d : Connection). gave_to node (buffer_after (payload_of (room_in store d) o) output) (sent_to d o)) (sym g.is))
               g.walked
           stops j o l fits z (inr (w, other)) = swept _ l (given_other _ o (get_or l j blank) other) w
@@ -235,7 +231,7 @@ module _ (m : Manager) (store : Bytes) (sound : Sound m store) (node : ℕ) wher
   -- ---- a start for the node itself
   module _ (job : Job) (n : Now) where
     -- its bytes are in its room
-    module _ (long : length store ≡ store_size) (c d : Connection) (e : start_on m job n store c ≡ Taken.Connection d) where
+    module _ (long : length store ≡ store_size) (c d : Connection) (e : start_on m job n store c ≡ Ok d) where
       stored : room_at (store_with job store c) c.room ≡ job_room job (room_in store c)
       stored =
           put_own store long c.room _
@@ -248,7 +244,7 @@ module _ (m : Manager) (store : Bytes) (sound : Sound m store) (node : ℕ) wher
           (sym
           (ap (λ (x : List Connection). holding_in node x (store_with job store c)) (live_table l (number_of m))
           ∙ tracked_holding node c.room (store_with job store c) d u
-          ∙ ap (connection d) stored))
+          ∙ ap (λ (b : Bytes). Some (d, b)) stored))
           refl (begins c (number_of m) (room_in store c) seat e)
 
     own_start : (output : Bytes) → Of (Sees-by (starts node job n)) (called m store output (starts node job n))
@@ -303,9 +299,9 @@ module _ (m : Manager) (store : Bytes) (sound : Sound m store) (node : ℕ) wher
   pub call_view : (output : Bytes) (x : Call) → Of (Sees-by x) (called m store output x)
   call_view output (turns t n) = go (find_in node (live m)) (found_as node (live m))
     where
-      go : (f : Found) → FoundAs node (live m) f → Of (Sees-by (turns t n)) (called m store output (turns t n))
-      go (Found.At k) at = held_walk k at t n output
-      go Found.Absent absent = absent_walk absent t n output
+      go : (f : Option ℕ) → FoundAs node (live m) f → Of (Sees-by (turns t n)) (called m store output (turns t n))
+      go (Some k) at = held_walk k at t n output
+      go None absent = absent_walk absent t n output
   call_view output (starts k job n) = go (ℕ_discrete k node)
     where
       go : Dec (k ≡ node) → Of (Sees-by (starts k job n)) (called m store output (starts k job n))

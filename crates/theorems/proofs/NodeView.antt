@@ -1,5 +1,6 @@
 -- How a call looks from one node: what is held for it, what the call gives it, the end that is reported of it, and what is held for it afterwards. Proofs
 -- about one node's job go by these cases, and never look at the table.
+use Rattle.std.specs.Prelude.{Option, Some, None, Ok, option_map, IfSome}
 use Prim.Native.Nat.{ℕ}
 use mathlib.Core.Path.{◌≡◌}
 use mathlib.Core.List.{[]}
@@ -13,19 +14,17 @@ use Rattle.man_table.specs.Table.{room_in}
 use Rattle.manager.specs.Calls.{Call, Job, job_room, replies, start_job, starts, turns}
 use Rattle.manager.specs.Value.{value_of}
 use Rattle.man_table.specs.Walk.{at_turn}
-use Rattle.theorems.specs.Quiet.{Holding, connection, nothing}
-use Rattle.theorems.specs.Story.{Gave, command, none}
+use Rattle.theorems.specs.Quiet.{Holding}
+use Rattle.theorems.specs.Story.{Gave}
 use Rattle.theorems.specs.Types.{
   Answer,
-  EndFound,
+  End,
   Now,
+  Outgoing,
   Refusal,
   SdoClientConnection as Connection,
   SdoCommand,
-  Sends,
   SequenceLayerHeader,
-  Stepped,
-  Taken,
   Turn,
 }
 use Rattle.theorems.proofs.Tracked.{held_after}
@@ -43,45 +42,43 @@ Apart node (turns t n) a = Unit {0}
 Apart node (replies k seq cmd payload) a = (k ≡ node → ⊥) ⊎ IsRefused a
 
 -- what a connection gives
-abbrev pub gave_by : Bytes → Sends → Gave
-gave_by room (Sends.Gives o) = command (sequence_of o) (command_of o) (payload_of room o)
-gave_by room Sends.Silent = none
+abbrev pub gave_by : Bytes → Option Outgoing → Gave
+gave_by room x = option_map (λ (o : Outgoing). (sequence_of o, command_of o, payload_of room o)) x
 
 -- the connection that a start goes to: the one held, or a new one
 abbrev pub Seat : Holding → Connection → Type 0
-Seat nothing c = Unit {0}
-Seat (connection d room) c = c ≡ d
+Seat h c = IfSome h (λ (p : Connection × Bytes). c ≡ p.0)
 
 -- the bytes of the room of what was held before
 abbrev pub bytes_of : Holding → Bytes
-bytes_of nothing = []
-bytes_of (connection c room) = room
+bytes_of None = []
+bytes_of (Some (c, room)) = room
 
 abbrev pub bytes_in : Holding → Bytes → Bytes
-bytes_in nothing store = []
-bytes_in (connection c room) store = room_in store c
+bytes_in None store = []
+bytes_in (Some (c, room)) store = room_in store c
 
 -- what is held before, the call, its answer, what it gives the node, the end reported, what is held after, and the bytes then in the room of what was
 -- held before
-pub data NodeView (node : ℕ) : Holding → Call → Answer → Gave → EndFound → Holding → Bytes → Type 0 where
+pub data NodeView (node : ℕ) : Holding → Call → Answer → Gave → Option End → Holding → Bytes → Type 0 where
   -- it is not concerned
-  rests : {h : Holding} {x : Call} {a : Answer} → Apart node x a → NodeView node h x a none EndFound.Running h (bytes_of h)
+  rests : {h : Holding} {x : Call} {a : Answer} → Apart node x a → NodeView node h x a None None h (bytes_of h)
   -- a reply from a node that is not held
   unknown : {seq : SequenceLayerHeader} {cmd : SdoCommand} {payload : Bytes}
-      → NodeView node nothing (replies node seq cmd payload) Answer.Nothing none EndFound.Running nothing []
+      → NodeView node None (replies node seq cmd payload) Answer.Nothing None None None []
   -- its job begins
   begins : {h : Holding} {job : Job} {n : Now} {d : Connection} {after : Bytes} (c : Connection) (t : ℕ) (room : Bytes) → Seat h c
-      → start_job job c t n room ≡ Taken.Connection d
-      → NodeView node h (starts node job n) Answer.Nothing none EndFound.Running (connection d (job_room job room)) after
+      → start_job job c t n room ≡ Ok d
+      → NodeView node h (starts node job n) Answer.Nothing None None (Some (d, job_room job room)) after
   -- a start for a new node is refused, and an Idle connection entered
   idles : {job : Job} {n : Now} {r : Refusal} {at : ℕ} {room : Bytes}
-      → NodeView node nothing (starts node job n) (Answer.Refused r) none EndFound.Running (connection (new_connection node at) room) []
+      → NodeView node None (starts node job n) (Answer.Refused r) None None (Some (new_connection node at, room)) []
   -- its turn comes
-  steps : {t : Turn} {n : Now} {a : Answer} {c d : Connection} {room : Bytes} {x : Sends}
-      → at_turn t c n ≡ Stepped.Went (record { connection = d; sends = x })
-      → NodeView node (connection c room) (turns t n) a (gave_by room x) (end_of d) (held_after (end_of d) d room) room
+  steps : {t : Turn} {n : Now} {a : Answer} {c d : Connection} {room : Bytes} {x : Option Outgoing}
+      → at_turn t c n ≡ Ok (record { connection = d; sends = x })
+      → NodeView node (Some (c, room)) (turns t n) a (gave_by room x) (end_of d) (held_after (end_of d) d room) room
   -- its reply is taken
   answers : {seq : SequenceLayerHeader} {cmd : SdoCommand} {payload : Bytes} {c d : Connection} {room : Bytes}
-      → replied (reply_of seq cmd payload c room) ≡ Taken.Connection d
-      → NodeView node (connection c room) (replies node seq cmd payload) (value_of d) none (end_of d)
+      → replied (reply_of seq cmd payload c room) ≡ Ok d
+      → NodeView node (Some (c, room)) (replies node seq cmd payload) (value_of d) None (end_of d)
       (held_after (end_of d) d (room_after (reply_of seq cmd payload c room) payload room)) (room_after (reply_of seq cmd payload c room) payload room)

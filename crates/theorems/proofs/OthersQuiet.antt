@@ -1,15 +1,16 @@
 -- A start or a reply for one node leaves what is held for every other node: its connection, and the bytes of its room.
+use Rattle.std.specs.Prelude.{All, Option, Some, None, Ok}
 use Prim.Native.Nat.{ℕ, zero, suc, ◌<◌}
 use native.Mathlib.Omega.{arith}
 use mathlib.Core.Path.{◌≡◌, refl, sym, ◌∙◌, ap}
 use mathlib.Core.Bool.{Bool, true, false}
 use mathlib.Core.List.{List, [], ◌∷◌}
 use lib.Dec.{ltb, eqb}
-use lib.ListN.{length, set}
+use lib.ListN.{length, set, get_or}
 use borrow.Author.Tests.{eqb-true, ne_eqb}
+use Rattle.std.proofs.lemmas.List.Elements.{All-cons, All-head, All-tail, All-set}
 use Rattle.laws.specs.Pick.{pick}
 use Rattle.codec.specs.Bytes.{Bytes}
-use Rattle.con_reply.specs.Consistent.{is_ended}
 use Rattle.con_rec.specs.Record.{end_with}
 use Rattle.con_reply.specs.Reply.{replied, reply_of, room_after}
 use Rattle.con_reply.proofs.StoresWithin.{replied_room}
@@ -18,18 +19,17 @@ use Rattle.manager.specs.Calls.{Call, Job, called, number_of, replies, starts, t
 use Rattle.manager.specs.Value.{value_of}
 use Rattle.man_table.specs.Sweep.{ends_in, running, unless_end, with_end}
 use Rattle.man_table.specs.Table.{blank, free_room, insert_at, insert_in, live, room_size, store_size, table_of, held_at, room_in}
-use Rattle.theorems.specs.Quiet.{ForAnother, Holding, QuietOthers, connection, holding, holding_in}
+use Rattle.theorems.specs.Quiet.{ForAnother, Holding, QuietOthers, holding, holding_in}
 use Rattle.theorems.specs.Run.{Host, Lends, another, next, own, reached}
-use Rattle.theorems.specs.Sound.{All, Reached, Sane, Slotted, Sound}
-use Rattle.theorems.specs.Story.{end_for, gave_to, none}
-use Rattle.theorems.specs.Types.{EndFound, Taken, Now, Outcome, Reason, SdoClientConnection as Connection, SdoClientManager as Manager, SdoCommand, SequenceLayerHeader}
-use Rattle.theorems.proofs.AllLists.{all_at, all_by, all_set}
+use Rattle.theorems.specs.Sound.{Reached, Slotted, Sound}
+use Rattle.theorems.specs.Story.{end_for, gave_to}
+use Rattle.theorems.specs.Types.{Now, Reason, SdoClientConnection as Connection, SdoClientManager as Manager, SdoCommand, SequenceLayerHeader}
 use Rattle.manager.proofs.WalkCalls.{live_table}
-use Rattle.theorems.proofs.Cases.{Absent, At, Of, Shown, gives_none, reply_by_lem}
+use Rattle.theorems.proofs.Cases.{Absent, At, gives_none, Of, OtherNode, reply_by_lem, Shown}
 use Rattle.theorems.proofs.NodeAndRoom.{Same, replied_same}
 use Rattle.theorems.proofs.FreeRooms.{free_nobodys, free_slotted}
 use Rattle.theorems.proofs.JobStarts.{started_room, started_same}
-use Rattle.theorems.proofs.OrderedTables.{nowhere, ordered_tracks}
+use Rattle.theorems.proofs.OrderedTables.{InSlot, nowhere, ordered_tracks}
 use Rattle.theorems.proofs.AllReached.{all_sound}
 use Rattle.theorems.proofs.Rooms.{apart, room_length}
 use Rattle.theorems.proofs.StartBy.{fresh, start_by, start_on, store_with}
@@ -47,7 +47,7 @@ module _ (node other : ℕ) (differ : other ≡ node → ⊥) (store : Bytes) wh
   look_set [] k d at e = refl
   look_set (c ∷ l) zero d at e = rw (passed d e, passed c at.0)
   look_set (c ∷ l) (suc k) d at e =
-      ap (λ (x : Holding). pick (eqb c.target_node_id other) (connection c (room_in store c)) x)
+      ap (λ (x : Holding). pick (eqb c.target_node_id other) (Some (c, room_in store c)) x)
       (look_set l k d (at.0, omega (arith, at.1)) e)
 
   look_insert : (l : List Connection) (d : Connection) → d.target_node_id ≡ node → holding_in other (insert_in d l) store ≡ holding_in other l store
@@ -57,96 +57,98 @@ module _ (node other : ℕ) (differ : other ≡ node → ⊥) (store : Bytes) wh
       let rest = look_insert l d e in
       either (λ (k : ℕ). holding_in other (insert_at k d (c ∷ l)) store ≡ holding_in other (c ∷ l) store)
       (ltb d.target_node_id c.target_node_id) 0 _
-      (rw (passed d e)) (ap (λ (x : Holding). pick (eqb c.target_node_id other) (connection c (room_in store c)) x) rest)
+      (rw (passed d e)) (ap (λ (x : Holding). pick (eqb c.target_node_id other) (Some (c, room_in store c)) x) rest)
+
+-- no connection of the node has ended
+abbrev RunsAt : ℕ → Connection → Type 0
+RunsAt other c = c.target_node_id ≡ other → c.outcome ≡ None
 
 -- one that ended is not of a node that runs
-ended_other : (c : Connection) (other : ℕ) → (c.target_node_id ≡ other → c.outcome ≡ Outcome.Running) → (why : Reason)
-    → c.outcome ≡ Outcome.Ended why → c.target_node_id ≡ other → ⊥
-ended_other c other runs why e f =
-    let z : false ≡ true = ap is_ended (sym (runs f)) ∙ ap is_ended e in
-    let y : ◌≡◌ {A = ℕ} 0 1 = cc in absurd (omega arith)
+ended_other : (c : Connection) (other : ℕ) → RunsAt other c → (why : Reason)
+    → c.outcome ≡ Some why → c.target_node_id ≡ other → ⊥
+ended_other c other runs why e f = cc (runs f)
 
 -- the sweep removes none of a node that runs
-look_running : (other : ℕ) (store : Bytes) (l : List Connection)
-    → All (λ (c : Connection). c.target_node_id ≡ other → c.outcome ≡ Outcome.Running) l
+look_running : (other : ℕ) (store : Bytes) (l : List Connection) → All (RunsAt other) l
     → holding_in other (running l) store ≡ holding_in other l store
 unfolding pick
 look_running other store [] a = refl
-look_running other store (c ∷ l) a = go c.outcome refl (look_running other store l a.1)
+look_running other store (c ∷ l) a = go c.outcome refl (look_running other store l (All-tail (RunsAt other) c l a))
   where
-    go : (x : Outcome) → c.outcome ≡ x → holding_in other (running l) store ≡ holding_in other l store
+    go : (x : Option Reason) → c.outcome ≡ x → holding_in other (running l) store ≡ holding_in other l store
         → holding_in other (unless_end (end_with c x) c (running l)) store
-        ≡ pick (eqb c.target_node_id other) (connection c (room_in store c)) (holding_in other l store)
-    go Outcome.Running e r = ap (λ (x : Holding). pick (eqb c.target_node_id other) (connection c (room_in store c)) x) r
-    go (Outcome.Ended why) e r = rw (ne_eqb c.target_node_id other (ended_other c other a.0 why e)) r
+        ≡ pick (eqb c.target_node_id other) (Some (c, room_in store c)) (holding_in other l store)
+    go None e r = ap (λ (x : Holding). pick (eqb c.target_node_id other) (Some (c, room_in store c)) x) r
+    go (Some why) e r = rw (ne_eqb c.target_node_id other (ended_other c other (All-head (RunsAt other) c l a) why e)) r
 
 -- and reports no end of it
-ends_running : (other : ℕ) (l : List Connection)
-    → All (λ (c : Connection). c.target_node_id ≡ other → c.outcome ≡ Outcome.Running) l → end_for other (ends_in l) ≡ EndFound.Running
+ends_running : (other : ℕ) (l : List Connection) → All (RunsAt other) l → end_for other (ends_in l) ≡ None
 unfolding pick
 ends_running other [] a = refl
-ends_running other (c ∷ l) a = go c.outcome refl (ends_running other l a.1)
+ends_running other (c ∷ l) a = go c.outcome refl (ends_running other l (All-tail (RunsAt other) c l a))
   where
-    go : (x : Outcome) → c.outcome ≡ x → end_for other (ends_in l) ≡ EndFound.Running
-        → end_for other (with_end (end_with c x) (ends_in l)) ≡ EndFound.Running
-    go Outcome.Running e r = r
-    go (Outcome.Ended why) e r = rw (ne_eqb c.target_node_id other (ended_other c other a.0 why e)) r
+    go : (x : Option Reason) → c.outcome ≡ x → end_for other (ends_in l) ≡ None
+        → end_for other (with_end (end_with c x) (ends_in l)) ≡ None
+    go None e r = r
+    go (Some why) e r = rw (ne_eqb c.target_node_id other (ended_other c other (All-head (RunsAt other) c l a) why e)) r
 
 -- the store changed elsewhere
-look_store : (other : ℕ) (store after : Bytes) (l : List Connection)
-    → All (λ (c : Connection). c.target_node_id ≡ other → room_in after c ≡ room_in store c) l
+abbrev BytesStay : ℕ → Bytes → Bytes → Connection → Type 0
+BytesStay other store after c = c.target_node_id ≡ other → room_in after c ≡ room_in store c
+
+look_store : (other : ℕ) (store after : Bytes) (l : List Connection) → All (BytesStay other store after) l
     → holding_in other l after ≡ holding_in other l store
 unfolding pick
 look_store other store after [] a = refl
-look_store other store after (c ∷ l) a = go (eqb c.target_node_id other) refl (look_store other store after l a.1)
+look_store other store after (c ∷ l) a = go (eqb c.target_node_id other) refl (look_store other store after l (All-tail (BytesStay other store after) c l a))
   where
     go : (b : Bool) → eqb c.target_node_id other ≡ b → holding_in other l after ≡ holding_in other l store
-        → pick b (connection c (room_in after c)) (holding_in other l after) ≡ pick b (connection c (room_in store c)) (holding_in other l store)
-    go true e r = ap (connection c) (a.0 (eqb-true c.target_node_id other e))
+        → pick b (Some (c, room_in after c)) (holding_in other l after) ≡ pick b (Some (c, room_in store c)) (holding_in other l store)
+    go true e r = ap (λ (b : Bytes). Some (c, b)) (All-head (BytesStay other store after) c l a (eqb-true c.target_node_id other e))
     go false e r = r
 
 -- ---- the rooms of the others
+abbrev OtherAt : ℕ → ℕ → Connection → Type 0
+OtherAt node at c = OtherNode node c → Other node at c
+
 others_of : (node at : ℕ) (Q : Connection → Type 0) {l : List Connection} → Tracks node at Q l
-    → All (λ (c : Connection). (c.target_node_id ≡ node → ⊥) → Other node at c) l
+    → All (OtherAt node at) l
 others_of node at Q (here {c = c} {l = l} e f q o) =
-    (λ ne. absurd (ne e), all_by (Other node at) (λ (c : Connection). (c.target_node_id ≡ node → ⊥) → Other node at c) (λ x h ne. h) l o)
-others_of node at Q (there o t) = (λ ne. o, others_of node at Q t)
+    All-cons (OtherAt node at) c l (λ ne. absurd (ne e)) (λ k d h ne. o k d h)
+others_of node at Q (there {c = c} {l = l} o t) =
+    All-cons (OtherAt node at) c l (λ ne. o) (others_of node at Q t)
 
 module _ (m : Manager) (store : Bytes) (sound : Sound m store) (node other : ℕ) (differ : other ≡ node → ⊥) where
-  slots : All (λ (c : Connection). Slotted c.room) (live m)
-  slots = all_by (Sane store) (λ (c : Connection). Slotted c.room) (λ c s. s.slotted) (live m) sound.each
+  slots : All InSlot (live m)
+  slots = λ k d h. (sound.each k d h).slotted
 
   module _ (long : length store ≡ store_size) (d : Connection) (slot : Slotted d.room) (room : Bytes)
       (size : length room ≡ room_size) where
-    elsewhere : All (λ (c : Connection). (c.target_node_id ≡ node → ⊥) → Other node d.room c) (live m)
+    elsewhere : All (OtherAt node d.room) (live m)
         → holding_in other (live m) (with_room store d room) ≡ holding_in other (live m) store
     elsewhere a =
-        look_store other store (with_room store d room) (live m)
-        (all_by (λ (c : Connection). (c.target_node_id ≡ node → ⊥) → Other node d.room c)
-        (λ (c : Connection). c.target_node_id ≡ other → room_in (with_room store d room) c ≡ room_in store c)
-        (λ c h e. away c (h (λ f. differ (sym e ∙ f)))) (live m) a)
+        look_store other store (with_room store d room) (live m) (λ k x h e. away (get_or (live m) k x) (a k x h (λ f. differ (sym e ∙ f))))
       where
         away : (c : Connection) → Other node d.room c → room_in (with_room store d room) c ≡ room_in store c
         away c o = apart store long c.room d.room room size o.slotted slot (λ e. o.room_differs (sym e))
 
   -- found at a place, whose connection and room's bytes change
   held_others : (k : ℕ) → At node (live m) k
-      → All (λ (c : Connection). (c.target_node_id ≡ node → ⊥) → Other node (held_at m k).room c) (live m)
+      → All (OtherAt node (held_at m k).room) (live m)
   held_others k at =
       others_of node (held_at m k).room _ (ordered_tracks node (live m) sound.ordered slots k at)
 
   slot_at : (k : ℕ) → At node (live m) k → Slotted (held_at m k).room
-  slot_at k at = all_at (λ (c : Connection). Slotted c.room) (live m) k blank at.1 slots
+  slot_at k at = slots k blank at.1
 
   new_others : Absent node (live m) → length (live m) < 8
-      → All (λ (c : Connection). (c.target_node_id ≡ node → ⊥) → Other node (free_room (live m)) c) (live m)
+      → All (OtherAt node (free_room (live m))) (live m)
   new_others unheld few =
-      all_by (Other node (free_room (live m))) (λ (c : Connection). (c.target_node_id ≡ node → ⊥) → Other node (free_room (live m)) c)
-      (λ x h ne. h) (live m) (nowhere node (free_room (live m)) (live m) unheld (free_nobodys (live m) few) slots)
+      λ k d h ne. nowhere node (free_room (live m)) (live m) unheld (free_nobodys (live m) few) slots k d h
 
   -- what is held for the other node is told by the list and the store that a call leaves; it is given nothing, and no end of it is reported
   abbrev pub Quiet : Shown
-  Quiet k after out x es = (holding k after other ≡ holding m store other) × (gave_to other out x ≡ none) × (end_for other es ≡ EndFound.Running)
+  Quiet k after out x es = (holding k after other ≡ holding m store other) × (gave_to other out x ≡ None) × (end_for other es ≡ None)
 
   tells : (l : List Connection) (t : ℕ) (after : Bytes) → holding_in other l after ≡ holding_in other (live m) store
       → holding (table_of l t) after other ≡ holding m store other
@@ -160,17 +162,15 @@ module _ (m : Manager) (store : Bytes) (sound : Sound m store) (node other : ℕ
         (room_after (reply_of seq cmd payload (held_at m k) (room_in store (held_at m k))) payload (room_in store (held_at m k)))
 
     answers : (output : Bytes) (k : ℕ) (d : Connection) → length store ≡ store_size → At node (live m) k
-        → replied (reply_of seq cmd payload (held_at m k) (room_in store (held_at m k))) ≡ Taken.Connection d
+        → replied (reply_of seq cmd payload (held_at m k) (room_in store (held_at m k))) ≡ Ok d
         → Quiet (table_of (running (set (live m) k d)) m.next_transaction_id) (after k) output (value_of d) (ends_in (set (live m) k d))
     answers output k d long at e =
         let c : Connection = held_at m k in
         let s : Same c d = replied_same seq cmd payload c (room_in store c) d e in
         let own : d.target_node_id ≡ node = s.0 ∙ at.0 in
-        let run : All (λ (x : Connection). x.target_node_id ≡ other → x.outcome ≡ Outcome.Running) (set (live m) k d) =
-        all_set (λ (x : Connection). x.target_node_id ≡ other → x.outcome ≡ Outcome.Running) (live m) k d
-        (λ f. absurd (differ (sym f ∙ own)))
-        (all_by (Sane store) (λ (x : Connection). x.target_node_id ≡ other → x.outcome ≡ Outcome.Running) (λ x h f. h.runs) (live m)
-        sound.each) in (
+        let run : All (RunsAt other) (set (live m) k d) =
+        All-set (RunsAt other) (live m) k d
+        (λ f. absurd (differ (sym f ∙ own))) (λ j x h f. (sound.each j x h).runs) in (
           tells (running (set (live m) k d)) m.next_transaction_id (after k)
               (look_running other (after k) (set (live m) k d) run
               ∙ look_set node other differ (after k) (live m) k d at own
@@ -187,7 +187,7 @@ module _ (m : Manager) (store : Bytes) (sound : Sound m store) (node other : ℕ
   -- ---- start
   module _ (job : Job) (n : Now) where
     again : (k : ℕ) (d : Connection) → length store ≡ store_size → At node (live m) k
-        → start_on m job n store (held_at m k) ≡ Taken.Connection d
+        → start_on m job n store (held_at m k) ≡ Ok d
         → holding (table_of (set (live m) k d) (number_of m)) (store_with job store (held_at m k)) other ≡ holding m store other
     again k d long at e =
         let c : Connection = held_at m k in
@@ -198,7 +198,7 @@ module _ (m : Manager) (store : Bytes) (sound : Sound m store) (node other : ℕ
         (started_room job c d (number_of m) n (room_in store c) e ∙ room_length store long c.room) (held_others k at))
 
     enters : (d : Connection) → length store ≡ store_size → Absent node (live m) → length (live m) < 8
-        → start_on m job n store (fresh m node) ≡ Taken.Connection d
+        → start_on m job n store (fresh m node) ≡ Ok d
         → holding (table_of (insert_in d (live m)) (number_of m)) (store_with job store (fresh m node)) other ≡ holding m store other
     enters d long unheld few e =
         let c : Connection = fresh m node in

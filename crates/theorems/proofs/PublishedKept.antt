@@ -1,9 +1,10 @@
 -- In published mode no Complete that brings bytes follows an Expedited. What is kept: where the last command was Expedited and a transfer is under way, all
 -- of it was sent, so that a Complete has nothing left to bring.
+use Rattle.std.specs.Prelude.{Option, Some, None, Result, Ok, Err}
 use Prim.Native.Nat.{ℕ, ◌+◌, ◌-◌, ◌≤◌}
 use native.Mathlib.Omega.{arith}
-use mathlib.Core.Path.{◌≡◌, refl, sym, ap, subst, ◌∙◌}
-use mathlib.Core.Bool.{Bool, true, false, true≢false}
+use mathlib.Core.Path.{◌≡◌, refl, subst, ◌∙◌}
+use mathlib.Core.Bool.{Bool, true, false}
 use mathlib.Core.List.{List, [], ◌∷◌, ◌++◌}
 use lib.Dec.{leb}
 use lib.ListN.{length, take}
@@ -27,18 +28,16 @@ use Rattle.theorems.specs.Story.{Log, Story, accepted, asked, follow, untold}
 use Rattle.theorems.specs.Types.{
   Answer,
   DcfStep,
-  LoadedTransfer,
   Mode,
   Now,
-  Outcome,
   Outgoing,
+  Reason,
+  Refusal,
   SdoClientConnection as Connection,
   SdoClientConnectionState as State,
   SdoJob,
   Segmentation,
-  Sends,
   SequenceLayerHeader,
-  Taken,
   Transfer,
 }
 use Rattle.theorems.proofs.Followed.{Brings}
@@ -76,7 +75,7 @@ one_more_lem (s ∷ u ∷ l) t e h = (e.0, one_more_lem (u ∷ l) t e.1 h)
 -- ---- what is kept
 -- all of the loaded transfer was sent
 abbrev Whole : SdoJob → Type 0
-Whole j = (t : Transfer) → j.loaded ≡ LoadedTransfer.Loaded t → total t ≤ j.offset
+Whole j = (t : Transfer) → j.loaded ≡ Some t → total t ≤ j.offset
 
 abbrev Ready : List Sent → State → SdoJob → Type 0
 Ready asks x j = x ≡ State.DownloadInProgress → Last (λ (s : Sent). s.kind ≡ Segmentation.Expedited → Whole j) asks
@@ -97,32 +96,23 @@ Ends-so s room why j = OnlyEmpty s.asks
 elsewhere : {asks : List Sent} {x : State} {j : SdoJob} → is_downloading x ≡ false → is_idle x ≡ false → j.mode ≡ Mode.Published
     → OnlyEmpty asks → Following asks x j
 elsewhere apart w p f =
-    record { published = p; works = w; follows = f; ready = λ e. absurd (true≢false (sym (ap is_downloading e) ∙ apart)) }
+    record { published = p; works = w; follows = f; ready = λ e. cc }
 
 -- a command that is no Complete may follow anything
 other : (s : Story) (t : Sent) → (t.kind ≡ Segmentation.Complete → ⊥) → OnlyEmpty s.asks → OnlyEmpty (s.asks ++ (t ∷ []))
 other s t no-complete f = one_more_lem s.asks t f (any_last s.asks (λ u e g. absurd (no-complete g)))
 
-expedited_other : Segmentation.Expedited ≡ Segmentation.Complete → ⊥
-expedited_other e = let z : ◌≡◌ {A = ℕ} 0 1 = cc e in omega arith
-
-segment_other : Segmentation.Segment ≡ Segmentation.Complete → ⊥
-segment_other e = let z : ◌≡◌ {A = ℕ} 0 1 = cc e in omega arith
-
-same_transfer : {x : LoadedTransfer} {t u : Transfer} → x ≡ LoadedTransfer.Loaded t → x ≡ LoadedTransfer.Loaded u → t ≡ u
-same_transfer e f = cc (e, f)
-
 given : (s : Story) (room : Bytes) (c : Connection) {x : State} {n : ℕ} {o : Outgoing} → Given c x n o → Runs-so s room c.state c.job
-    → Runs-so (asked s (gave_by room (Sends.Gives o))) room x (with_offset c.job n)
-given s room c {o = o} (opening f e) h = elsewhere refl refl h.published (other s (sent_of room o) expedited_other h.follows)
-given s room c {o = o} (reading f e l p) h = elsewhere refl refl h.published (other s (sent_of room o) expedited_other h.follows)
-given s room c {o = o} (next f e) h = elsewhere refl refl h.published (other s (sent_of room o) segment_other h.follows)
+    → Runs-so (asked s (gave_by room (Some o))) room x (with_offset c.job n)
+given s room c {o = o} (opening f e) h = elsewhere refl refl h.published (other s (sent_of room o) (λ e. cc) h.follows)
+given s room c {o = o} (reading f e l p) h = elsewhere refl refl h.published (other s (sent_of room o) (λ e. cc) h.follows)
+given s room c {o = o} (next f e) h = elsewhere refl refl h.published (other s (sent_of room o) (λ e. cc) h.follows)
 given s room c {o = o} (first {t} f e l) h =
     record {
       published = h.published;
       works = refl;
       follows = other s (sent_of room o) (first_not_complete c.job.mode (total t)) h.follows;
-      ready = λ z. last_is _ s.asks (sent_of room o) (λ k u g. subst (λ (v : Transfer). total v ≤ part_length (total t)) (same_transfer l g) (all k));
+      ready = λ z. last_is _ s.asks (sent_of room o) (λ k u g. let same : t ≡ u = cc in subst (λ (v : Transfer). total v ≤ part_length (total t)) same (all k));
     }
   where
     all : first_kind c.job.mode (total t) ≡ Segmentation.Expedited → total t ≤ part_length (total t)
@@ -144,28 +134,28 @@ module _ (entries : List Bytes) where
   same_asks true s kind payload = refl
   same_asks false s kind payload = refl
 
-  module _ (s t : Story) (same : s.asks ≡ t.asks) (room : Bytes) (c : Connection) (r : c.outcome ≡ Outcome.Running)
+  module _ (s t : Story) (same : s.asks ≡ t.asks) (room : Bytes) (c : Connection) (r : c.outcome ≡ None)
       (h : Runs-so s room c.state c.job) where
     empty : OnlyEmpty t.asks
     empty = subst OnlyEmpty same h.follows
 
-    on : (to : Bytes) (d : Connection) → d.outcome ≡ Outcome.Running → Runs-so t to d.state d.job → Leaves Runs-so Ends-so t to d
+    on : (to : Bytes) (d : Connection) → d.outcome ≡ None → Runs-so t to d.state d.job → Leaves Runs-so Ends-so t to d
     on to d e i = rw e i
 
     stays : Runs-so t room c.state c.job
     stays = subst (λ (l : List Sent). Following l c.state c.job) same h
 
     next_left : (x : DcfStep) → Leaves Runs-so Ends-so t room (reply_next x c)
-    next_left (DcfStep.Entry index sub at len more) =
-        on room (reply_next (DcfStep.Entry index sub at len more) c) r (elsewhere refl refl h.published empty)
+    next_left (DcfStep.Entry entry more) =
+        on room (reply_next (DcfStep.Entry entry more) c) r (elsewhere refl refl h.published empty)
     next_left DcfStep.End = empty
     next_left DcfStep.Unreadable = empty
 
-    sent_left : (x : LoadedTransfer) → Leaves Runs-so Ends-so t room (reply_sent x room c)
-    sent_left (LoadedTransfer.Loaded u) =
+    sent_left : (x : Option Transfer) → Leaves Runs-so Ends-so t room (reply_sent x room c)
+    sent_left (Some u) =
         either (Leaves Runs-so Ends-so t room) (leb (total u) c.job.offset) _ c
         (next_left (dcf_step (take c.job.size room) c.job.cursor)) (on room c r stays)
-    sent_left LoadedTransfer.Unloaded = on room c r stays
+    sent_left None = on room c r stays
 
     taken : (seq : SequenceLayerHeader) (kind : Segmentation) (payload : Bytes)
         → Decides Runs-so Ends-so t payload room (reply_in c.state seq kind c (length payload) room)
@@ -204,33 +194,39 @@ begun_mode (reads mode index sub) = refl
 begun_mode (loads mode dcf) = go (dcf_step dcf (first_cursor dcf))
   where
     go : (x : DcfStep) → (dcf_job mode x (length dcf) (first_cursor dcf)).mode ≡ mode
-    go (DcfStep.Entry index sub at len more) = refl
+    go (DcfStep.Entry entry more) = refl
     go DcfStep.End = refl
     go DcfStep.Unreadable = refl
 
 module _ (lent : Bytes) (earlier : List Event) (node : ℕ) (job : Job) (now : Now) (m : mode_of job ≡ Mode.Published)
     (e : (start lent earlier node job now).done.answer ≡ Answer.Nothing) where
-  abbrev So : Taken → Type 0
-  So (Taken.Connection d) = Following [] d.state d.job
-  So (Taken.Refused r) = Unit {0}
+  abbrev So : Result Connection Refusal → Type 0
+  So (Ok d) = Following [] d.state d.job
+  So (Err r) = Unit {0}
 
-  begins : So (Taken.Connection (started lent earlier node job now e).begun)
+  begins : So (Ok (started lent earlier node job now e).begun)
   begins =
       let s = started lent earlier node job now e in
       subst So (began job s.before s.begun s.number now s.room s.is).2
       (elsewhere refl refl (begun_mode job ∙ m) tt)
 
-  follows_so : (l : Log) (h : Host) → Brings (entries_in job) Runs-so Ends-so (kept (entries_in job)) node l h → OnlyEmpty l.story.asks
-  follows_so l h = go l.outcome
-    where
-      go : (x : Outcome) → Brings (entries_in job) Runs-so Ends-so (kept (entries_in job)) node (record { story = l.story; outcome = x; figure = l.figure }) h
-          → OnlyEmpty l.story.asks
-      go Outcome.Running b = b.on.is.follows
-      go (Outcome.Ended why) b = b.over.ends
+  module _ (xs : List Event) where
+    abbrev log : Log
+    log = follow (entries_in job) node untold (after lent earlier node job now) xs
+
+    abbrev host : Host
+    host = run (after lent earlier node job now) xs
+
+    follows_so : OnlyEmpty log.story.asks
+    follows_so =
+        go log.outcome (brings lent earlier node job now e (entries_in job) Runs-so Ends-so (kept (entries_in job)) begins xs)
+      where
+        go : (x : Option Reason)
+            → Brings (entries_in job) Runs-so Ends-so (kept (entries_in job)) node (record { story = log.story; outcome = x; figure = log.figure }) host
+            → OnlyEmpty log.story.asks
+        go None b = b.on.is.follows
+        go (Some why) b = b.over.ends
 
 pub only_empty_follows : OnlyEmptyFollows
 unfolding OnlyEmptyFollows
-only_empty_follows lent earlier node job now xs m e =
-    follows_so lent earlier node job now m e (follow (entries_in job) node untold (after lent earlier node job now) xs)
-    (run (after lent earlier node job now) xs)
-    (brings lent earlier node job now e (entries_in job) Runs-so Ends-so (kept (entries_in job)) (begins lent earlier node job now m e) xs)
+only_empty_follows lent earlier node job now xs m e = follows_so lent earlier node job now m e xs

@@ -1,7 +1,7 @@
 -- A read, followed: its figure stays 0, and the first bytes of its room are what its accepted replies brought; kept by each step of its connection.
+use Rattle.std.specs.Prelude.{Option, Some, None}
 use Prim.Native.Nat.{ℕ, ◌+◌, ◌≤◌}
-use native.Mathlib.Omega.{arith}
-use mathlib.Core.Path.{◌≡◌, refl, sym, ◌∙◌, subst}
+use mathlib.Core.Path.{◌≡◌, refl, subst}
 use mathlib.Core.Bool.{false}
 use mathlib.Core.List.{List, [], ◌∷◌}
 use lib.Dec.{leb}
@@ -21,19 +21,13 @@ use Rattle.connection.specs.Start.{is_idle}
 use Rattle.theorems.specs.Story.{Story, accepted, answered, asked, wholly}
 use Rattle.theorems.specs.Types.{
   Decision,
-  LoadedTransfer,
-  Outcome,
   Outgoing,
-  PendingRead,
   Reason,
-  RoomFor,
   SdoClientConnection as Connection,
   SdoClientConnectionState as State,
   SdoJob,
   Segmentation,
   SequenceLayerHeader,
-  Sends,
-  Transfer,
 }
 use Rattle.theorems.proofs.JobKept.{Breaks, Decides, Ending, Kept, Leaves, MayWait, Running, opens}
 use Rattle.theorems.proofs.NodeView.{gave_by}
@@ -61,10 +55,6 @@ working State.UploadInProgress h = refl
 working State.DownloadInProgress h = absurd h
 working State.Closed h = absurd h
 
-abbrev IsRead : PendingRead → Type 0
-IsRead (PendingRead.Read index sub) = Unit {0}
-IsRead PendingRead.NoRead = ⊥
-
 -- what a read that ended Complete leaves
 abbrev pub AtComplete : Reason → Type 0 → Type 0
 AtComplete Reason.Complete holds = holds
@@ -78,8 +68,8 @@ AtComplete Reason.BadSegment holds = Unit {0}
 module _ (index sub : ℕ) where
   pub record Reading (told : ℕ) (brought room : Bytes) (x : State) (j : SdoJob) : Type 0 where
     pub reads : Reads x
-    pub pending : j.pending_read ≡ PendingRead.Read index sub
-    pub unloaded : j.loaded ≡ LoadedTransfer.Unloaded
+    pub pending : j.pending_read ≡ Some (record { index = index; sub_index = sub })
+    pub unloaded : j.loaded ≡ None
     pub left : j.cursor.left ≡ 0
     pub figure : j.delivered ≡ 0
     pub counts : told ≡ 0
@@ -98,7 +88,7 @@ module _ (index sub : ℕ) where
   abbrev Left-so : Story → Bytes → Connection → Type 0
   Left-so = Leaves ReadsRun ReadsEnd
 
-  runs_on : (s : Story) (room : Bytes) (d : Connection) → d.outcome ≡ Outcome.Running → ReadsRun s room d.state d.job → Left-so s room d
+  runs_on : (s : Story) (room : Bytes) (d : Connection) → d.outcome ≡ None → ReadsRun s room d.state d.job → Left-so s room d
   runs_on s room d e h = rw e h
 
   breaks_so : (s : Story) (room : Bytes) (j : SdoJob) → j.delivered ≡ 0 → s.delivered ≡ 0 → (why : Reason) → Breaks why → ReadsEnd s room why j
@@ -126,19 +116,16 @@ module _ (index sub : ℕ) where
         bytes = h.bytes;
       }
 
-  loads_nothing : {t : Transfer} {x : LoadedTransfer} → x ≡ LoadedTransfer.Loaded t → x ≡ LoadedTransfer.Unloaded → ⊥
-  loads_nothing {t} e f = let y : LoadedTransfer.Loaded t ≡ LoadedTransfer.Unloaded = sym e ∙ f in let z : ◌≡◌ {A = ℕ} 0 1 = cc y in omega arith
-
   given : (s : Story) (room : Bytes) (c : Connection) {x : State} {n : ℕ} {o : Outgoing} → Given c x n o → ReadsRun s room c.state c.job
-      → ReadsRun (asked s (gave_by room (Sends.Gives o))) room x (with_offset c.job n)
+      → ReadsRun (asked s (gave_by room (Some o))) room x (with_offset c.job n)
   given s room c (opening f e) h = moved State.Opening _ tt h
-  given s room c (first f e l) h = absurd (loads_nothing l h.unloaded)
+  given s room c (first f e l) h = cc
   given s room c (reading f e l p) h = moved State.UploadInit _ tt h
   given s room c (next f e) h = moved State.UploadInProgress _ tt h
-  given s room c (later f e l) h = absurd (loads_nothing l h.unloaded)
+  given s room c (later f e l) h = cc
 
   -- ---- a reply that is accepted
-  module _ (s : Story) (room : Bytes) (c : Connection) (r : c.outcome ≡ Outcome.Running) (h : ReadsRun s room c.state c.job)
+  module _ (s : Story) (room : Bytes) (c : Connection) (r : c.outcome ≡ None) (h : ReadsRun s room c.state c.job)
       (payload : Bytes) where
     abbrev after : Segmentation → Story
     after kind = accepted [] false s kind payload
@@ -171,14 +158,14 @@ module _ (index sub : ℕ) where
     last_so : (kind : Segmentation) (from : ℕ) → Decided kind (stored_last (room_for from (length payload) room) c from)
     unfolding room_for
     last_so kind from =
-        either (λ (x : RoomFor). Decided kind (stored_last x c from)) (leb (from + length payload) (length room)) _ _
+        either (λ (x : Option ℕ). Decided kind (stored_last x c from)) (leb (from + length payload) (length room)) _ _
         (λ g. (h.figure, counts kind, g)) (λ g. tt)
 
     more_so : (kind : Segmentation) → c.state ≡ State.UploadInProgress → (from : ℕ)
         → Decided kind (stored_more (room_for from (length payload) room) c from)
     unfolding room_for
     more_so kind w from =
-        either (λ (x : RoomFor). Decided kind (stored_more x c from)) (leb (from + length payload) (length room)) _ _
+        either (λ (x : Option ℕ). Decided kind (stored_more x c from)) (leb (from + length payload) (length room)) _ _
         (λ g.
         runs_on (after kind) (placed room from payload) (with_bytes c (from + length payload)) r
         (rw w (brings kind (placed room from payload) (from + length payload) State.UploadInProgress tt g)))
@@ -205,7 +192,7 @@ module _ (index sub : ℕ) where
         (more_joined c payload room kind)
 
   takes : (s : Story) (room : Bytes) (c : Connection) (seq : SequenceLayerHeader) (kind : Segmentation) (payload : Bytes)
-      → LoadsIn c.state c.job.loaded → c.outcome ≡ Outcome.Running → MayWait c.state → ReadsRun s room c.state c.job
+      → LoadsIn c.state c.job.loaded → c.outcome ≡ None → MayWait c.state → ReadsRun s room c.state c.job
       → Decides ReadsRun ReadsEnd (accepted [] (opens c.state) s kind payload) payload room
       (reply_in c.state seq kind c (length payload) room)
   takes s room c seq kind payload l r m h = go c.state refl m
@@ -234,6 +221,6 @@ module _ (index sub : ℕ) where
         hears = λ s room x j h. h;
         breaks = λ s room x j h. breaks_so s room j h.figure h.counts;
         gives = given;
-        finishes = λ s room c e l p h. absurd (subst IsRead (sym h.pending ∙ p) tt);
+        finishes = λ s room c e l p h. cc;
         takes = takes;
       }

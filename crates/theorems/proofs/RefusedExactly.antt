@@ -1,8 +1,9 @@
 -- Each refusal of each call of a manager that calls made is given exactly when document 01's column says.
+use Rattle.std.specs.Prelude.{Option, Some, None, Result, Ok, Err}
 use Prim.Native.Nat.{ℕ, ◌≤◌, ◌<◌}
 use native.Mathlib.Omega.{arith}
-use mathlib.Core.Path.{◌≡◌, refl, sym, ◌∙◌, ap, subst}
-use mathlib.Core.Bool.{Bool, true, false, true≢false}
+use mathlib.Core.Path.{◌≡◌, refl, ap, subst}
+use mathlib.Core.Bool.{Bool, true, false}
 use mathlib.Core.List.{List, [], ◌∷◌}
 use mathlib.Core.Logic.{inl, inr}
 use lib.Dec.{ltb, leb, eqb}
@@ -37,11 +38,9 @@ use Rattle.theorems.specs.Sound.{Reached, Sane, Sound}
 use Rattle.theorems.specs.Types.{
   Answer,
   Change,
-  Taken,
   Decision,
   Done,
   Entry,
-  Found,
   Now,
   Refusal,
   SdoClientConnection as Connection,
@@ -50,7 +49,6 @@ use Rattle.theorems.specs.Types.{
   SequenceLayerHeader,
   Turn,
 }
-use Rattle.theorems.proofs.AllLists.{all_at}
 use Rattle.theorems.proofs.Cases.{FoundAs, found_as}
 use Rattle.theorems.proofs.Checks.{Answers, Unrefused, answer_of, exactly, start_checks_lem}
 use Rattle.theorems.proofs.AllReached.{all_sound}
@@ -61,10 +59,10 @@ use Rattle.theorems.proofs.TurnChecks.{RefusedIf, walk_if}
 use Rattle.theorems.proofs.WrongStore.{wrong_store}
 
 -- ---- starts
-started_answer : (x : Taken) (entry : Entry) → answer_of x ≡ (started_as x entry).answer
+started_answer : (x : Result Connection Refusal) (entry : Entry) → answer_of x ≡ (started_as x entry).answer
 unfolding pick
-started_answer (Taken.Connection d) entry = refl
-started_answer (Taken.Refused r) entry = go (takes_number r)
+started_answer (Ok d) entry = refl
+started_answer (Err r) entry = go (takes_number r)
   where
     go : (b : Bool) → Answer.Refused r ≡ (pick b (taking (idle_of entry) (Answer.Refused r)) (same (Answer.Refused r))).answer
     go true = refl
@@ -78,34 +76,34 @@ done_answer m c = either (λ (d : Done). c.answer ≡ d.answer) c.sweeps _ _ ref
 module _ (m : Manager) (store : Bytes) (sound : Sound m store) where
   module _ (node : ℕ) (job : Job) (n : Now) where
     -- after the store: whose job it is
-    abbrev after : Found → List (Check Refusal)
+    abbrev after : Option ℕ → List (Check Refusal)
     after f = check Refusal.TableFull (FullAs f m) ∷ check Refusal.Busy (BusyAs f m) ∷ job_checks job n
 
     abbrev Starts : List (Check Refusal) → Effect → Type 0
     Starts checks e = Answers checks e.change.answer
 
     module _ (long : length store ≡ store_size) where
-      new : length (live m) < 8 → Starts (after Found.Absent) (start_at (seat_of (Entry.New (fresh m node))) (Entry.New (fresh m node)) m job n store)
+      new : length (live m) < 8 → Starts (after None) (start_at (seat_of (Entry.New (fresh m node))) (Entry.New (fresh m node)) m job n store)
       new few =
           inr (
             λ z. omega arith,
             subst (Answers (check Refusal.Busy ⊥ ∷ job_checks job n))
                 (started_answer (start_on m job n store (fresh m node)) (Entry.New (fresh m node)))
                 (start_checks_lem ⊥ job (fresh m node) (number_of m) n (room_in store (fresh m node)) (room_length store long (free_room (live m)))
-                true≢false (λ i z. z)),
+                (λ e. cc) (λ i z. z)),
           )
 
-      target : (f : Found) → Starts (after f) (start_at (seat_of (target_at f m node)) (target_at f m node) m job n store)
-      target (Found.At k) =
+      target : (f : Option ℕ) → Starts (after f) (start_at (seat_of (target_at f m node)) (target_at f m node) m job n store)
+      target (Some k) =
           inr (
             λ z. z,
-            subst (Answers (check Refusal.Busy (BusyAs (Found.At k) m) ∷ job_checks job n))
+            subst (Answers (check Refusal.Busy (BusyAs (Some k) m) ∷ job_checks job n))
                 (started_answer (start_on m job n store (held_at m k)) (Entry.At k (held_at m k)))
-                (start_checks_lem (BusyAs (Found.At k) m) job (held_at m k) (number_of m) n (room_in store (held_at m k))
-                (room_length store long (held_at m k).room) (λ i. i) (λ i z. true≢false (sym i ∙ z))),
+                (start_checks_lem (BusyAs (Some k) m) job (held_at m k) (number_of m) n (room_in store (held_at m k))
+                (room_length store long (held_at m k).room) (λ i. i) (λ i z. cc)),
           )
-      target Found.Absent =
-          decided (λ (x : Entry). Starts (after Found.Absent) (start_at (seat_of x) x m job n store)) (leb 8 (length (live m))) Entry.Nowhere _
+      target None =
+          decided (λ (x : Entry). Starts (after None) (start_at (seat_of x) x m job n store)) (leb 8 (length (live m))) Entry.Nowhere _
           (λ h. inl (eight (leb-true _ _ h), refl)) (λ h. new (leb-false _ _ h))
         where
           eight : 8 ≤ length (live m) → length (live m) ≡ 8
@@ -114,7 +112,7 @@ module _ (m : Manager) (store : Bytes) (sound : Sound m store) where
     start_answers : Starts (start_checks m store node job n) (start_of m node job n store)
     unfolding start_of seat_in target_of
     start_answers =
-        decided (λ (s : Taken). Starts (start_checks m store node job n) (start_at s (target_at (find_in node (live m)) m node) m job n store))
+        decided (λ (s : Result Connection Refusal). Starts (start_checks m store node job n) (start_at s (target_at (find_in node (live m)) m node) m job n store))
         (eqb (length store) store_size) _ _
         (λ h. inr (λ z. z (eqb-true _ _ h), target (eqb-true _ _ h) (find_in node (live m))))
         (λ h. inl (eqb-false _ _ h, refl))
@@ -123,8 +121,8 @@ module _ (m : Manager) (store : Bytes) (sound : Sound m store) where
   walk_answers : (t : Turn) (n : Now) (output : Bytes) (w : Walking) → RefusedIf (OutOfRange n × Sets (turn_does t n) (live m)) w
       → Answers (check Refusal.DeadlineRange (OutOfRange n × Sets (turn_does t n) (live m)) ∷ []) (walked_to w m store output).done.answer
   walk_answers t n output (refused r) h = inl (h.1, ap Answer.Refused h.0)
-  walk_answers t n output (through l) h = inr (h, tt)
-  walk_answers t n output (stopped k o l) h = inr (h, tt)
+  walk_answers t n output (through l) h = inr (h, λ q e. cc)
+  walk_answers t n output (stopped k o l) h = inr (h, λ q e. cc)
 
   turn_answers : (t : Turn) (n : Now) (output : Bytes)
       → Answers (turn_checks t m store n output) (turn_of t m n store output).done.answer
@@ -156,16 +154,16 @@ module _ (m : Manager) (store : Bytes) (sound : Sound m store) where
     decided_answers : (cause : Type 0) (k : ℕ) (c : Connection) (x : Decision) → NoRoomIf cause x
         → Replies (check Refusal.NoRoom cause ∷ []) (reply_by x k c payload store)
     unfolding NoRoomIf
-    decided_answers cause k c (Decision.Keeps d) h = inr (h, value_by_lem Unrefused tt (λ part. tt) d)
-    decided_answers cause k c (Decision.Stores d from) h = inr (h, value_by_lem Unrefused tt (λ part. tt) d)
+    decided_answers cause k c (Decision.Keeps d) h = inr (h, value_by_lem Unrefused (λ r e. cc) (λ part r e. cc) d)
+    decided_answers cause k c (Decision.Stores d from) h = inr (h, value_by_lem Unrefused (λ r e. cc) (λ part r e. cc) d)
     decided_answers cause k c Decision.NoRoom h = inl (h, refl)
 
-    found_answers : length store ≡ store_size → (f : Found) → FoundAs node (live m) f
+    found_answers : length store ≡ store_size → (f : Option ℕ) → FoundAs node (live m) f
         → Replies (check Refusal.NoRoom (OverflowsAs f m seq cmd payload) ∷ []) (reply_at f m seq cmd payload store)
-    found_answers long Found.Absent a = inr (λ z. z, tt)
-    found_answers long (Found.At k) a =
-        let s : Sane store (held_at m k) = all_at (Sane store) (live m) k blank a.1 sound.each in
-        decided_answers (OverflowsAs (Found.At k) m seq cmd payload) k (held_at m k)
+    found_answers long None a = inr (λ z. z, λ r e. cc)
+    found_answers long (Some k) a =
+        let s : Sane store (held_at m k) = sound.each k blank a.1 in
+        decided_answers (OverflowsAs (Some k) m seq cmd payload) k (held_at m k)
         (reply_of seq cmd payload (held_at m k) (room_in store (held_at m k)))
         (reply_if (room_in store (held_at m k)) (room_length store long (held_at m k).room) seq cmd payload (held_at m k)
         s.consistent.last)

@@ -1,8 +1,8 @@
 -- A reply is refused for room exactly when it is accepted and takes an upload past the room.
+use Rattle.std.specs.Prelude.{Option, Some, None}
 use Prim.Native.Nat.{ℕ, ◌+◌, ◌≤◌, ◌<◌, ◌%◌}
 use native.Mathlib.Omega.{arith}
-use mathlib.Core.Path.{◌≡◌, sym, ◌∙◌}
-use mathlib.Core.Bool.{true≢false}
+use mathlib.Core.Path.{◌≡◌}
 use lib.Dec.{leb, eqb}
 use lib.ListN.{length}
 use borrow.Author.Tests.{eqb-true, eqb-false, leb-true, leb-false}
@@ -23,8 +23,7 @@ use Rattle.man_table.specs.Table.{room_size}
 use Rattle.theorems.specs.Causes.{Accepted, Past}
 use Rattle.theorems.specs.Types.{
   Decision,
-  Outstanding,
-  RoomFor,
+  Outgoing,
   SdoClientConnection as Connection,
   SdoClientConnectionState as State,
   SdoCommand,
@@ -59,14 +58,14 @@ module _ (room : Bytes) (size : length room ≡ room_size) where
     last_if : NoRoomIf (room_size < from + n) (stored_last (room_for from n room) c from)
     unfolding room_for NoRoomIf
     last_if =
-        decided (λ (x : RoomFor). NoRoomIf (room_size < from + n) (stored_last x c from)) (leb (from + n) (length room))
-        (RoomFor.Upto (from + n)) RoomFor.NoRoom (λ h. short (leb-true _ _ h)) (λ h. past (leb-false _ _ h))
+        decided (λ (x : Option ℕ). NoRoomIf (room_size < from + n) (stored_last x c from)) (leb (from + n) (length room))
+        (Some (from + n)) None (λ h. short (leb-true _ _ h)) (λ h. past (leb-false _ _ h))
 
     more_if : NoRoomIf (room_size < from + n) (stored_more (room_for from n room) c from)
     unfolding room_for NoRoomIf
     more_if =
-        decided (λ (x : RoomFor). NoRoomIf (room_size < from + n) (stored_more x c from)) (leb (from + n) (length room))
-        (RoomFor.Upto (from + n)) RoomFor.NoRoom (λ h. short (leb-true _ _ h)) (λ h. past (leb-false _ _ h))
+        decided (λ (x : Option ℕ). NoRoomIf (room_size < from + n) (stored_more x c from)) (leb (from + n) (length room))
+        (Some (from + n)) None (λ h. short (leb-true _ _ h)) (λ h. past (leb-false _ _ h))
 
   first_reply : (kind : Segmentation) (c : Connection) (n : ℕ)
       → NoRoomIf (Past State.UploadInit kind c.job.uploaded n) (reply_first kind c n room)
@@ -98,25 +97,25 @@ module _ (room : Bytes) (size : length room ≡ room_size) where
     abbrev Overflow : Type 0
     Overflow = Past c.state cmd.header.segmentation c.job.uploaded (length payload)
 
-    abbrev Cause : Outstanding → Type 0
+    abbrev Cause : Option Outgoing → Type 0
     Cause x = Accepted x c seq cmd × Overflow
 
-    to_reply : (x : Outstanding) → NoRoomIf (Cause x) (reply_to x seq cmd payload c room)
-    to_reply Outstanding.Nothing = keeps c (λ z. z.0)
-    to_reply (Outstanding.Waits o) =
+    to_reply : (x : Option Outgoing) → NoRoomIf (Cause x) (reply_to x seq cmd payload c room)
+    to_reply None = keeps c (λ z. z.0.0)
+    to_reply (Some o) =
         decided P (eqb seq.receive_sequence_number o.send) _ _
         (λ h. decided P (eqb send c.last_received_sequence_number) _ _
         (λ k. keeps _ (λ z. again (eqb-true _ _ k) z.0.1))
         (λ k. decided P (eqb send ((c.last_received_sequence_number + 1) % 64)) _ _
         (λ j. decided P cmd.header.is_aborted _ _
-        (λ i. keeps _ (λ z. true≢false (sym i ∙ z.0.2)))
-        (λ i. same_cause Overflow (Cause (Outstanding.Waits o)) (λ p. ((eqb-true _ _ h, eqb-true _ _ j, i), p)) (λ z. z.1) _
+        (λ i. keeps _ (λ z. cc (i, z.0.2)))
+        (λ i. same_cause Overflow (Cause (Some o)) (λ p. ((eqb-true _ _ h, eqb-true _ _ j, i), p)) (λ z. z.1) _
         (in_reply c.state seq cmd.header.segmentation (cleared c send) (length payload))))
         (λ j. keeps _ (λ z. eqb-false _ _ j z.0.1))))
         (λ h. keeps _ (λ z. eqb-false _ _ h z.0.0))
       where
         P : Decision → Type 0
-        P = NoRoomIf (Cause (Outstanding.Waits o))
+        P = NoRoomIf (Cause (Some o))
 
         send : ℕ
         send = seq.send_sequence_number

@@ -1,13 +1,15 @@
 -- Rooms of the store: each starts at a multiple of 4,096 up to 28,672; what is put in one leaves the others as they were.
-use Prim.Native.Nat.{ℕ, ◌+◌, ◌-◌, ◌≤◌, ◌<◌, min}
+use Prim.Native.Nat.{ℕ, ◌+◌, ◌≤◌, ◌<◌, min}
 use native.Mathlib.Omega.{arith}
 use mathlib.Core.Path.{◌≡◌, refl, sym, ◌∙◌, ap}
 use mathlib.Core.Bool.{Bool, true, false}
 use mathlib.Core.List.{◌++◌, append_assoc}
 use lib.Dec.{ltb}
-use lib.ListN.{length, take, drop, length-append, length-take, length-drop, take-append-drop}
-use lib.Seq.{length-take-le, take-append-le, drop-append-le, drop-append-add, drop-drop, drop_at, take-append_seam}
+use lib.ListN.{length, take, drop, length-append, length-take, length-drop}
+use lib.Seq.{length-take-le, take-append-le, drop_at, take-append_seam}
 use borrow.Author.Tests.{ltb-true, ltb-false}
+use Rattle.std.proofs.lemmas.List.{drop-take, take-take}
+use Rattle.std.proofs.lemmas.Slice.{drop-append-drop}
 use Rattle.codec.specs.Bytes.{Bytes, placed}
 use Rattle.codec.proofs.WrittenBytes.{placed_length}
 use Rattle.man_table.specs.Table.{last_room, room_size, store_size}
@@ -21,22 +23,17 @@ room_at store at = take room_size (drop (min at last_room) store)
 abbrev pub put_at : Bytes → ℕ → Bytes → Bytes
 put_at store at room = placed store (min at last_room) room
 
-front : (x y : Bytes) (base size : ℕ) → base + size ≤ length x → take size (drop base (x ++ y)) ≡ take size (drop base x)
-front x y base size h =
-    let a : base ≤ length x = omega arith in
-    let b : size ≤ length (drop base x) = rw length-drop (omega arith) in
-    rw (drop-append-le base x y a, take-append-le size (drop base x) y b)
-
 -- what lies before the place
 before : (d s : Bytes) (at base size : ℕ) → base + size ≤ length d → base + size ≤ at
     → take size (drop base (placed d at s)) ≡ take size (drop base d)
 unfolding placed
 before d s at base size h k =
-    let a : base + size ≤ length (take at d) = rw length-take (omega arith) in
-    ap (λ (l : Bytes). take size (drop base l)) (append_assoc (take at d) s (drop (at + length s) d))
-    ∙ front (take at d) (s ++ drop (at + length s) d) base size a
-    ∙ sym (front (take at d) (drop at d) base size a)
-    ∙ ap (λ (l : Bytes). take size (drop base l)) (take-append-drop at d)
+    let n : ℕ = base + size in
+    let a : n ≤ length (take at d) = rw length-take (omega arith) in
+    let b : n ≤ length (take at d ++ s) = rw length-append (omega arith) in
+    let e : take n (placed d at s) ≡ take n d =
+    take-append-le n (take at d ++ s) (drop (at + length s) d) b ∙ take-append-le n (take at d) s a ∙ take-take n at d k in
+    sym (drop-take base size (placed d at s)) ∙ ap (drop base) e ∙ drop-take base size d
 
 -- what lies behind
 behind : (d s : Bytes) (at base size : ℕ) → base + size ≤ length d → at + length s ≤ base
@@ -44,15 +41,8 @@ behind : (d s : Bytes) (at base size : ℕ) → base + size ≤ length d → at 
 unfolding placed
 behind d s at base size h k =
     let a : at ≤ length d = omega arith in
-    let e : length (take at d ++ s) ≡ at + length s = rw (length-append, length-take-le at d a) in
-    let b : length (take at d ++ s) + (base - (at + length s)) ≡ base = omega arith in
-    let f : at + length s + (base - (at + length s)) ≡ base = omega arith in
-    let g : drop base (take at d ++ s ++ drop (at + length s) d) ≡ drop base d =
-    ap (λ (n : ℕ). drop n (take at d ++ s ++ drop (at + length s) d)) (sym b)
-    ∙ drop-append-add (take at d ++ s) (drop (at + length s) d) (base - (at + length s))
-    ∙ drop-drop (base - (at + length s)) (at + length s) d
-    ∙ ap (λ (n : ℕ). drop n d) f in
-    ap (λ (l : Bytes). take size l) g
+    ap (take size)
+    (drop-append-drop (at + length s) d (take at d ++ s) base k (length-append (take at d) s ∙ ap (λ (n : ℕ). n + length s) (length-take-le at d a)))
 
 module _ (store : Bytes) (long : length store ≡ store_size) where
   pub room_length : (at : ℕ) → length (room_at store at) ≡ room_size

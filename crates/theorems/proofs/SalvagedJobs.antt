@@ -1,4 +1,5 @@
 -- A repaired DCF as a job: demand 3 of it, whose entries are all that it counts.
+use Rattle.std.specs.Prelude.{Option, Some}
 use Prim.Native.Nat.{ℕ}
 use mathlib.Core.Path.{◌≡◌, refl, subst}
 use mathlib.Core.List.{List}
@@ -11,14 +12,14 @@ use Rattle.con_reply.specs.Delivery.{For, pieces}
 use Rattle.con_reply.specs.Jobs.{loads}
 use Rattle.theorems.specs.Salvage.{SalvagedLoads}
 use Rattle.theorems.specs.Story.{Log, follow, untold}
-use Rattle.theorems.specs.Types.{Outcome, Reason}
+use Rattle.theorems.specs.Types.{Reason}
 use Rattle.theorems.proofs.JobStarted.{after}
 use Rattle.theorems.proofs.SendsDelivered.{demand_3}
 use Rattle.theorems.specs.Demand.{Demand3, job_of}
 
 -- where all counted entries are readable no job ends Cut
-never_cut : (entries got : List Bytes) (x : Outcome) (figure : ℕ) → For entries (length entries) got x figure → x ≡ Outcome.Ended Reason.Cut → ⊥
-never_cut entries got x figure h e = (subst (λ (y : Outcome). For entries (length entries) got y figure) e h).2 refl
+never_cut : (entries got : List Bytes) (x : Option Reason) (figure : ℕ) → For entries (length entries) got x figure → x ≡ Some Reason.Cut → ⊥
+never_cut entries got x figure h e = (subst (λ (y : Option Reason). For entries (length entries) got y figure) e h).2 refl
 
 pub salvaged_loads : SalvagedLoads
 unfolding SalvagedLoads Demand3

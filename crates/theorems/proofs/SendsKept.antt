@@ -1,8 +1,9 @@
 -- A job that sends, followed: what is carried of it (con_reply's `Carried`) and its delivered figure are kept by each step of its connection.
+use Rattle.std.specs.Prelude.{Option, Some, None}
 use Prim.Native.Nat.{ℕ, ◌≤◌, ◌<◌}
 use native.Mathlib.Omega.{arith}
 use mathlib.Core.Path.{◌≡◌, refl, sym, ◌∙◌, subst}
-use mathlib.Core.Bool.{true, false, true≢false}
+use mathlib.Core.Bool.{true, false}
 use mathlib.Core.List.{List, [], ◌∷◌, ◌++◌}
 use lib.Dec.{eqb, leb}
 use lib.ListN.{length, take, length-take}
@@ -25,8 +26,6 @@ use Rattle.connection.specs.Start.{is_idle}
 use Rattle.theorems.specs.Story.{Story, accepted, answered, wholly}
 use Rattle.theorems.specs.Types.{
   DcfStep,
-  LoadedTransfer,
-  Outcome,
   Outgoing,
   Reason,
   SdoClientConnection as Connection,
@@ -69,7 +68,7 @@ module _ (a : Aim) where
   Left-so = Leaves SendsRun SendsEnd
 
   -- it goes on, or ends, with its figure
-  runs_on : (s : Story) (room : Bytes) (d : Connection) → d.outcome ≡ Outcome.Running → SendsRun s room d.state d.job → Left-so s room d
+  runs_on : (s : Story) (room : Bytes) (d : Connection) → d.outcome ≡ None → SendsRun s room d.state d.job → Left-so s room d
   runs_on s room d e h = rw e h
 
   left_so : (s : Story) (room : Bytes) (d : Connection) → room ≡ a.room → Left a (pieces s.asks) d → s.delivered ≡ d.job.delivered
@@ -77,9 +76,9 @@ module _ (a : Aim) where
   unfolding Left
   left_so s room d at l f = go d.outcome l
     where
-      go : (x : Outcome) → LeavesAs a (pieces s.asks) d x → LeavesBy SendsRun SendsEnd s room d x
-      go Outcome.Running i = (at, i, f)
-      go (Outcome.Ended why) i = (i, f)
+      go : (x : Option Reason) → LeavesAs a (pieces s.asks) d x → LeavesBy SendsRun SendsEnd s room d x
+      go None i = (at, i, f)
+      go (Some why) i = (i, f)
 
   breaks : (s : Story) (room : Bytes) (x : State) (j : SdoJob) → SendsRun s room x j → (why : Reason) → Breaks why → SendsEnd s room why j
   breaks s room x j h Reason.Complete b = absurd b
@@ -102,18 +101,18 @@ module _ (a : Aim) where
       (rw (joined_both [] s.asks (sent_of a.room o ∷ [])) (sent a (pieces s.asks) c h.1 g))
 
   -- ---- a reply that is accepted
-  module _ (s : Story) (room : Bytes) (c : Connection) (r : c.outcome ≡ Outcome.Running) (h : SendsRun s room c.state c.job)
+  module _ (s : Story) (room : Bytes) (c : Connection) (r : c.outcome ≡ None) (h : SendsRun s room c.state c.job)
       (kind : Segmentation) (payload : Bytes) where
     abbrev t : Story
     t = accepted a.entries false s kind payload
 
     next_figure : (x : DcfStep) → (reply_next x c).job.delivered ≡ one_more c.job.delivered
-    next_figure (DcfStep.Entry index sub start len next) = refl
+    next_figure (DcfStep.Entry entry next) = refl
     next_figure DcfStep.End = refl
     next_figure DcfStep.Unreadable = refl
 
     module _ (x : Transfer)
-        (i : Carried a (pieces s.asks) State.DownloadInProgress (LoadedTransfer.Loaded x) c.job.offset c.job.cursor
+        (i : Carried a (pieces s.asks) State.DownloadInProgress (Some x) c.job.offset c.job.cursor
         c.job.delivered c.job.pending_read c.job.size) where
       is_whole : wholly a.entries (pieces s.asks) ≡ eqb (length (take c.job.offset (wire a.job x))) (length (wire a.job x))
       is_whole = rw (i.known, i.joined) (wholly_last i.before (wire a.job x) _ _)
@@ -147,17 +146,16 @@ module _ (a : Aim) where
           let w : wholly a.entries (pieces s.asks) ≡ false = is_whole ∙ ne_eqb _ _ (not_long q) in
           runs_on t room c r (h.0, h.1, rw w h.2)
 
-    sent_so : c.state ≡ State.DownloadInProgress → LoadsIn c.state c.job.loaded → (x : LoadedTransfer) → c.job.loaded ≡ x
+    sent_so : c.state ≡ State.DownloadInProgress → LoadsIn c.state c.job.loaded → (x : Option Transfer) → c.job.loaded ≡ x
         → Left-so t room (reply_sent x room c)
-    sent_so e l LoadedTransfer.Unloaded f =
-        let z : true ≡ false = subst (λ (y : State). LoadsIn y LoadedTransfer.Unloaded) e (subst (LoadsIn c.state) f l) in
-        absurd (true≢false z)
-    sent_so e l (LoadedTransfer.Loaded x) f =
+    sent_so e l None f =
+        let z : true ≡ false = subst (λ (y : State). LoadsIn y None) e (subst (LoadsIn c.state) f l) in cc
+    sent_so e l (Some x) f =
         decided (Left-so t room) (leb (total x) c.job.offset) _ c (λ q. all x (rw (e, f) at h.1) (leb-true _ _ q))
         (λ q. some x (rw (e, f) at h.1) (leb-false _ _ q))
 
   takes : (s : Story) (room : Bytes) (c : Connection) (seq : SequenceLayerHeader) (kind : Segmentation) (payload : Bytes)
-      → LoadsIn c.state c.job.loaded → c.outcome ≡ Outcome.Running → MayWait c.state → SendsRun s room c.state c.job
+      → LoadsIn c.state c.job.loaded → c.outcome ≡ None → MayWait c.state → SendsRun s room c.state c.job
       → Decides SendsRun SendsEnd (accepted a.entries (opens c.state) s kind payload) payload room
       (reply_in c.state seq kind c (length payload) room)
   takes s room c seq kind payload l r m h = go c.state refl m

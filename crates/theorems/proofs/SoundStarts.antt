@@ -1,24 +1,25 @@
 -- A start leaves a sound manager sound, with the store that it leaves.
+use Rattle.std.specs.Prelude.{All, Ok}
+use Rattle.std.proofs.lemmas.List.Elements.{All-set}
 use Prim.Native.Nat.{ℕ, ◌<◌}
 use native.Mathlib.Omega.{arith}
 use mathlib.Core.Path.{◌≡◌, refl, sym, ◌∙◌, ap, subst}
 use mathlib.Core.List.{List}
-use lib.ListN.{length, set}
+use lib.ListN.{length, set, get_or}
 use Rattle.codec.specs.Bytes.{Bytes}
 use Rattle.con_reply.proofs.StepSound.{new_sound}
 use Rattle.manager.specs.Calls.{Job, called, job_room, number_of, starts}
 use Rattle.man_table.specs.Table.{free_room, insert_in, live, place_in, room_size, store_size, table_of, held_at, room_in}
-use Rattle.theorems.specs.Sound.{All, Sane, Slotted, Sound}
+use Rattle.theorems.specs.Sound.{Sane, Slotted, Sound}
 use Rattle.theorems.specs.Types.{
   Answer,
-  Taken,
   End,
   Now,
   SdoClientConnection as Connection,
   SdoClientManager as Manager,
 }
 use Rattle.theorems.specs.Untouched.{stepped}
-use Rattle.theorems.proofs.AllLists.{all_by, all_insert, all_set}
+use Rattle.theorems.proofs.AllLists.{all_insert}
 use Rattle.theorems.proofs.Cases.{Absent, At}
 use Rattle.theorems.proofs.NodeAndRoom.{Same}
 use Rattle.theorems.proofs.FreeRooms.{Nobodys, free_nobodys, free_slotted}
@@ -47,7 +48,7 @@ module _ (m : Manager) (store : Bytes) (sound : Sound m store) (node : ℕ) (job
 
   -- a connection that was started, in the store with its job's bytes
   module _ (long : length store ≡ store_size) (c d : Connection) (slot : Slotted c.room)
-      (e : start_on m job n store c ≡ Taken.Connection d) where
+      (e : start_on m job n store c ≡ Ok d) where
     abbrev room : Bytes
     room = job_room job (room_in store c)
 
@@ -64,17 +65,17 @@ module _ (m : Manager) (store : Bytes) (sound : Sound m store) (node : ℕ) (job
         (fit_new m store sound long c room size d fixed slot (started_sound job c d (number_of m) n (room_in store c) e))
 
     others : All (Sane (store_with job store c)) (live m)
-    others = all_by (Sane store) (Sane (store_with job store c)) (sane_there m store sound long c room size) (live m) sound.each
+    others k d h = sane_there m store sound long c room size (get_or (live m) k d) (sound.each k d h)
 
   again_sound : (k : ℕ) (d : Connection) → length store ≡ store_size → At node (live m) k
-      → start_on m job n store (held_at m k) ≡ Taken.Connection d
+      → start_on m job n store (held_at m k) ≡ Ok d
       → Sound (table_of (set (live m) k d) (number_of m)) (store_with job store (held_at m k))
   again_sound k d long at e =
       let c : Connection = held_at m k in
       let slot : Slotted c.room = slot_at m store sound node k at in
       sound_table (set (live m) k d) (number_of m) (store_with job store c) (few_set m store sound k d)
       (ordered_set m store sound k d (fixed long c d slot e))
-      (all_set (Sane (store_with job store c)) (live m) k d (sane long c d slot e) (others long c d slot e))
+      (All-set (Sane (store_with job store c)) (live m) k d (sane long c d slot e) (others long c d slot e))
       (number_next m sound.number)
 
   -- a new connection, in a room that was nobody's
@@ -88,7 +89,7 @@ module _ (m : Manager) (store : Bytes) (sound : Sound m store) (node : ℕ) (job
       (number_next m sound.number)
 
   enters_sound : (d : Connection) → length store ≡ store_size → Absent node (live m) → length (live m) < 8
-      → start_on m job n store (fresh m node) ≡ Taken.Connection d
+      → start_on m job n store (fresh m node) ≡ Ok d
       → Sound (table_of (insert_in d (live m)) (number_of m)) (store_with job store (fresh m node))
   enters_sound d long none few e =
       let c : Connection = fresh m node in

@@ -1,4 +1,6 @@
 -- What a sound table is made of: a list of connections that are fit for their rooms, in order, after those that ended were removed.
+use Rattle.std.specs.Prelude.{All, Option, Some, None}
+use Rattle.std.proofs.lemmas.List.Elements.{All-cons, All-nil, All-head, All-tail}
 use Prim.Native.Nat.{ℕ, suc, ◌+◌, ◌≤◌}
 use native.Mathlib.Omega.{arith}
 use mathlib.Core.Path.{◌≡◌, refl, sym, ◌∙◌, ap, subst}
@@ -14,9 +16,8 @@ use Rattle.laws.proofs.Choices.{decided}
 use Rattle.manager.specs.Calls.{number_of}
 use Rattle.man_table.specs.Sweep.{running, unless_end}
 use Rattle.man_table.specs.Table.{insert_in, live, place_in, room_in, table_of}
-use Rattle.theorems.specs.Sound.{All, Ordered, Sane, Slotted, Sound}
-use Rattle.theorems.specs.Types.{EndFound, Outcome, SdoClientConnection as Connection, SdoClientManager as Manager}
-use Rattle.theorems.proofs.AllLists.{Each}
+use Rattle.theorems.specs.Sound.{Ordered, Sane, Slotted, Sound}
+use Rattle.theorems.specs.Types.{End, Reason, SdoClientConnection as Connection, SdoClientManager as Manager}
 use Rattle.manager.proofs.WalkCalls.{live_table}
 use Rattle.theorems.proofs.NodeAndRoom.{Same}
 use Rattle.theorems.proofs.OrderedTables.{ordered_running}
@@ -48,11 +49,11 @@ running_few : (l : List Connection) → length (running l) ≤ length l
 running_few [] = omega arith
 running_few (c ∷ l) = go (end_of c) (running_few l)
   where
-    go : (x : EndFound) → length (running l) ≤ length l → length (unless_end x c (running l)) ≤ suc (length l)
-    go EndFound.Running h = omega arith
-    go (EndFound.End e) h = omega arith
+    go : (x : Option End) → length (running l) ≤ length l → length (unless_end x c (running l)) ≤ suc (length l)
+    go None h = omega arith
+    go (Some e) h = omega arith
 
-pub sane_of : (store : Bytes) (c : Connection) → c.outcome ≡ Outcome.Running → Fit store c → Sane store c
+pub sane_of : (store : Bytes) (c : Connection) → c.outcome ≡ None → Fit store c → Sane store c
 sane_of store c e f =
     record {
       slotted = f.slotted;
@@ -62,12 +63,12 @@ sane_of store c e f =
     }
 
 running_sane : (store : Bytes) (l : List Connection) → All (Fit store) l → All (Sane store) (running l)
-running_sane store [] a = tt
-running_sane store (c ∷ l) a = go c.outcome refl (running_sane store l a.1)
+running_sane store [] a = All-nil (Sane store)
+running_sane store (c ∷ l) a = go c.outcome refl (running_sane store l (All-tail (Fit store) c l a))
   where
-    go : (x : Outcome) → c.outcome ≡ x → All (Sane store) (running l) → All (Sane store) (unless_end (end_with c x) c (running l))
-    go Outcome.Running e r = (sane_of store c e a.0, r)
-    go (Outcome.Ended why) e r = r
+    go : (x : Option Reason) → c.outcome ≡ x → All (Sane store) (running l) → All (Sane store) (unless_end (end_with c x) c (running l))
+    go None e r = All-cons (Sane store) c (running l) (sane_of store c e (All-head (Fit store) c l a)) r
+    go (Some why) e r = r
 
 pub swept_sound : (l : List Connection) (t : ℕ) (store : Bytes) → length l ≤ 8 → Ordered l → All (Fit store) l → t ≤ 255
     → Sound (table_of (running l) t) store
@@ -79,12 +80,6 @@ pub number_next : (m : Manager) → m.next_transaction_id ≤ 255 → number_of 
 number_next m h =
     decided (λ (t : ℕ). t ≤ 255) (eqb m.next_transaction_id 255) 1 (m.next_transaction_id + 1) (λ e. omega arith)
     (λ e. let ne = eqb-false m.next_transaction_id 255 e in omega arith)
-
-pub each_length : (l k : List Connection) (R : Connection → Connection → Type 0) → Each R l k → length k ≡ length l
-each_length [] [] R e = refl
-each_length [] (y ∷ k) R e = absurd e
-each_length (x ∷ l) [] R e = absurd e
-each_length (x ∷ l) (y ∷ k) R e = ap suc (each_length l k R e.1)
 
 pub insert_length : (d : Connection) (l : List Connection) → length (insert_in d l) ≡ suc (length l)
 insert_length d l =

@@ -1,5 +1,7 @@
 -- What tick gives is an abort, or the last command that ask gave the node since its job's start: the command outstanding is always that one, with the
 -- payload that its room still says.
+use Rattle.std.specs.Prelude.{Option, Some, None, Result, Ok, Err, IfSome}
+use Rattle.std.specs.Option.{option_or}
 use Prim.Native.Nat.{ℕ}
 use mathlib.Core.Path.{◌≡◌, refl, sym, ◌∙◌, ap, subst}
 use mathlib.Core.Bool.{true}
@@ -25,24 +27,22 @@ use Rattle.manager.specs.Value.{value_of}
 use Rattle.manager.proofs.ValueCases.{value_by_lem}
 use Rattle.man_table.specs.Table.{new_manager}
 use Rattle.man_table.specs.Walk.{at_turn}
-use Rattle.theorems.specs.Quiet.{Holding, connection, holding, nothing}
+use Rattle.theorems.specs.Quiet.{Holding, holding}
 use Rattle.theorems.specs.Run.{Event, Host, made, next, reached, run}
 use Rattle.theorems.specs.Sound.{Reached, Sound}
-use Rattle.theorems.specs.Story.{Gave, command, none}
-use Rattle.theorems.specs.TickGives.{TickGives, after_reply, last_after, last_by, or_else, unless_answered}
+use Rattle.theorems.specs.Story.{Gave}
+use Rattle.theorems.specs.TickGives.{TickGives, after_reply, last_after, last_by, unless_answered}
 use Rattle.theorems.specs.Types.{
   Answer,
   Decision,
-  EndFound,
+  End,
   Now,
   Outgoing,
-  Outstanding,
+  Refusal,
   SdoClientConnection as Connection,
   SdoCommand,
-  Sends,
   SequenceLayerHeader,
-  Stepped,
-  Taken,
+  Step,
   Turn,
 }
 use Rattle.theorems.proofs.AllReached.{all_sound, event_sound, new_sound}
@@ -53,41 +53,39 @@ use Rattle.theorems.proofs.NodeSees.{event_view}
 use Rattle.theorems.proofs.Tracked.{held_after}
 
 -- ---- the command outstanding is the last that ask gave
-abbrev Echo : Gave → Outstanding → Bytes → Type 0
-Echo last Outstanding.Nothing room = Unit {0}
-Echo last (Outstanding.Waits o) room = last ≡ command (sequence_of o) (command_of o) (payload_of room o)
+abbrev Echo : Gave → Option Outgoing → Bytes → Type 0
+Echo last x room = IfSome x (λ (o : Outgoing). last ≡ gave_by room (Some o))
 
 abbrev Echoes : Gave → Connection → Bytes → Type 0
 Echoes last c room = Echo last c.waiting.last_sent_command room
 
 abbrev EchoHeld : Gave → Holding → Type 0
-EchoHeld last nothing = Unit {0}
-EchoHeld last (connection c room) = Echoes last c room
+EchoHeld last h = IfSome h (λ (p : Connection × Bytes). Echoes last p.0 p.1)
 
-abbrev EchoTaken : Gave → Bytes → Taken → Type 0
-EchoTaken last room (Taken.Connection d) = Echoes last d room
-EchoTaken last room (Taken.Refused r) = Unit {0}
+abbrev EchoTaken : Gave → Bytes → Result Connection Refusal → Type 0
+EchoTaken last room (Ok d) = Echoes last d room
+EchoTaken last room (Err r) = Unit {0}
 
-echo_free : (last : Gave) (x : Outstanding) (room : Bytes) → x ≡ Outstanding.Nothing → Echo last x room
-echo_free last x room e = subst (λ (y : Outstanding). Echo last y room) (sym e) tt
+echo_free : (last : Gave) (x : Option Outgoing) (room : Bytes) → x ≡ None → Echo last x room
+echo_free last x room e = subst (λ (y : Option Outgoing). Echo last y room) (sym e) tt
 
 echo_after : (last : Gave) (d : Connection) (room : Bytes) → Echoes last d room → EchoHeld last (held_after (end_of d) d room)
 echo_after last d room h = go (end_of d)
   where
-    go : (x : EndFound) → EchoHeld last (held_after x d room)
-    go EndFound.Running = h
-    go (EndFound.End e) = tt
+    go : (x : Option End) → EchoHeld last (held_after x d room)
+    go None = h
+    go (Some e) = tt
 
 module _ (last : Gave) (c : Connection) (room : Bytes) (h : Echoes last c room) where
-  abbrev EchoStep : Turn → Stepped → Type 0
-  EchoStep Turn.Asking (Stepped.Went s) = Echoes (or_else (gave_by room s.sends) last) s.connection room
-  EchoStep Turn.Ticking (Stepped.Went s) = Echoes last s.connection room
-  EchoStep t (Stepped.Refused r) = Unit {0}
+  abbrev EchoStep : Turn → Result Step Refusal → Type 0
+  EchoStep Turn.Asking (Ok s) = Echoes (option_or (gave_by room s.sends) last) s.connection room
+  EchoStep Turn.Ticking (Ok s) = Echoes last s.connection room
+  EchoStep t (Err r) = Unit {0}
 
   ask_echo : (n : Now) → EchoStep Turn.Asking (ask_of c n)
   ask_echo n = go (ask_view c n)
     where
-      go : {x : Stepped} → AskView c n x → EchoStep Turn.Asking x
+      go : {x : Result Step Refusal} → AskView c n x → EchoStep Turn.Asking x
       go (silent w) = h
       go (ends f e l p) = tt
       go (gives g k) = refl
@@ -96,7 +94,7 @@ module _ (last : Gave) (c : Connection) (room : Bytes) (h : Echoes last c room) 
   tick_echo : (n : Now) → EchoStep Turn.Ticking (tick_of c n)
   tick_echo n = go (tick_view c n)
     where
-      go : {x : Stepped} → TickView c n x → EchoStep Turn.Ticking x
+      go : {x : Result Step Refusal} → TickView c n x → EchoStep Turn.Ticking x
       go (never e) = h
       go (early e k) = h
       go (over e k r) = tt
@@ -118,12 +116,12 @@ module _ (last : Gave) (c : Connection) (room : Bytes) (h : Echoes last c room) 
     cleared_echo Decision.NoRoom e = tt
 
     -- a reply to another command leaves the last one
-    ignored : (o : Outgoing) → c.waiting.last_sent_command ≡ Outstanding.Waits o → (seq.receive_sequence_number ≡ o.send → ⊥)
+    ignored : (o : Outgoing) → c.waiting.last_sent_command ≡ Some o → (seq.receive_sequence_number ≡ o.send → ⊥)
         → Echoes after c room
     unfolding pick
     ignored o e ne =
-        let is : last ≡ command (sequence_of o) (command_of o) (payload_of room o) = subst (λ (y : Outstanding). Echo last y room) e h in
-        subst (λ (y : Outstanding). Echo after y room) (sym e)
+        let is : last ≡ Some (sequence_of o, command_of o, payload_of room o) = subst (λ (y : Option Outgoing). Echo last y room) e h in
+        subst (λ (y : Option Outgoing). Echo after y room) (sym e)
         (ap (unless_answered seq) is ∙ rw (ne_eqb seq.receive_sequence_number o.send ne) refl)
 
     reply_echo : EchoDecided (reply_of seq cmd payload c room)
@@ -147,7 +145,7 @@ module _ (last : Gave) (c : Connection) (room : Bytes) (h : Echoes last c room) 
 
 -- ---- of any calls
 module _ (node : ℕ) where
-  apart_last : (last : Gave) (x : Call) (a : Answer) → Apart node x a → last_by node last x a none ≡ last
+  apart_last : (last : Gave) (x : Call) (a : Answer) → Apart node x a → last_by node last x a None ≡ last
   unfolding pick
   apart_last last (starts k job n) a (inl ne) = rw (ne_eqb k node ne) refl
   apart_last last (starts k job n) Answer.Nothing (inr p) = absurd p
@@ -168,7 +166,7 @@ module _ (node : ℕ) where
   answers_it : (seq : SequenceLayerHeader) (last : Gave) (d : Connection) → unless_answered seq last ≡ after_reply (value_of d) seq last
   answers_it seq last = value_by_lem (λ (a : Answer). unless_answered seq last ≡ after_reply a seq last) refl (λ part. refl)
 
-  call_echo : (last : Gave) {h : Holding} {x : Call} {a : Answer} {g : Gave} {e : EndFound} {i : Holding} {b : Bytes}
+  call_echo : (last : Gave) {h : Holding} {x : Call} {a : Answer} {g : Gave} {e : Option End} {i : Holding} {b : Bytes}
       → NodeView node h x a g e i b → EchoHeld last h → EchoHeld (last_by node last x a g) i
   unfolding pick
   call_echo last (rests {h} {x} {a} p) k = subst (λ (g : Gave). EchoHeld g h) (sym (apart_last last x a p)) k
@@ -178,7 +176,7 @@ module _ (node : ℕ) where
   call_echo last idles k = tt
   call_echo last (steps {t} {n} {a} {c} {d} {room} {x} e) k = go t e
     where
-      go : (u : Turn) → at_turn u c n ≡ Stepped.Went (record { connection = d; sends = x })
+      go : (u : Turn) → at_turn u c n ≡ Ok (record { connection = d; sends = x })
           → EchoHeld (last_by node last (turns u n) a (gave_by room x)) (held_after (end_of d) d room)
       go Turn.Asking f = echo_after _ d room (subst (EchoStep last c room k Turn.Asking) f (ask_echo last c room k n))
       go Turn.Ticking f = echo_after last d room (subst (EchoStep last c room k Turn.Ticking) f (tick_echo last c room k n))
@@ -196,8 +194,8 @@ module _ (node : ℕ) where
 
   -- ---- what tick gives
   abbrev Said : Gave → Gave → Type 0
-  Said last none = Unit {0}
-  Said last (command seq cmd payload) = (cmd.header.is_aborted ≡ true) ⊎ (last ≡ command seq cmd payload)
+  Said last None = Unit {0}
+  Said last (Some (seq, cmd, payload)) = (cmd.header.is_aborted ≡ true) ⊎ (last ≡ Some (seq, cmd, payload))
 
   abbrev Ticks : Gave → Holding → Call → Gave → Type 0
   Ticks last h (starts k job n) g = Unit {0}
@@ -205,29 +203,29 @@ module _ (node : ℕ) where
   Ticks last h (turns Turn.Ticking n) g = EchoHeld last h → Said last g
   Ticks last h (replies k seq cmd payload) g = Unit {0}
 
-  apart_ticks : (last : Gave) (h : Holding) (x : Call) → Ticks last h x none
+  apart_ticks : (last : Gave) (h : Holding) (x : Call) → Ticks last h x None
   apart_ticks last h (starts k job n) = tt
   apart_ticks last h (turns Turn.Asking n) = tt
   apart_ticks last h (turns Turn.Ticking n) = λ e. tt
   apart_ticks last h (replies k seq cmd payload) = tt
 
-  abbrev SaidStep : Gave → Bytes → Stepped → Type 0
-  SaidStep last room (Stepped.Went s) = Said last (gave_by room s.sends)
-  SaidStep last room (Stepped.Refused r) = Unit {0}
+  abbrev SaidStep : Gave → Bytes → Result Step Refusal → Type 0
+  SaidStep last room (Ok s) = Said last (gave_by room s.sends)
+  SaidStep last room (Err r) = Unit {0}
 
   tick_said : (last : Gave) (c : Connection) (room : Bytes) → Echoes last c room → (n : Now) → SaidStep last room (tick_of c n)
   tick_said last c room h n = step (tick_of c n) (tick_leaves c n)
     where
-      said : (x : Sends) → AgainOrAbort c x → Said last (gave_by room x)
-      said Sends.Silent g = tt
-      said (Sends.Gives o) (inl e) = inl (ap (λ (y : Outgoing). (command_of y).header.is_aborted) e)
-      said (Sends.Gives o) (inr e) = inr (subst (λ (y : Outstanding). Echo last y room) e h)
+      said : (x : Option Outgoing) → AgainOrAbort c x → Said last (gave_by room x)
+      said None g = tt
+      said (Some o) (inl e) = inl (ap (λ (y : Outgoing). (command_of y).header.is_aborted) e)
+      said (Some o) (inr e) = inr (subst (λ (y : Option Outgoing). Echo last y room) e h)
 
-      step : (x : Stepped) → Ticked c x → SaidStep last room x
-      step (Stepped.Went x) g = said x.sends g.0
-      step (Stepped.Refused r) g = tt
+      step : (x : Result Step Refusal) → Ticked c x → SaidStep last room x
+      step (Ok x) g = said x.sends g.0
+      step (Err r) g = tt
 
-  call_ticks : (last : Gave) {h : Holding} {x : Call} {a : Answer} {g : Gave} {e : EndFound} {i : Holding} {b : Bytes}
+  call_ticks : (last : Gave) {h : Holding} {x : Call} {a : Answer} {g : Gave} {e : Option End} {i : Holding} {b : Bytes}
       → NodeView node h x a g e i b → Ticks last h x g
   call_ticks last (rests {h} {x} {a} p) = apart_ticks last h x
   call_ticks last unknown = tt
@@ -235,8 +233,8 @@ module _ (node : ℕ) where
   call_ticks last idles = tt
   call_ticks last (steps {t} {n} {a} {c} {d} {room} {x} e) = go t e
     where
-      go : (u : Turn) → at_turn u c n ≡ Stepped.Went (record { connection = d; sends = x })
-          → Ticks last (connection c room) (turns u n) (gave_by room x)
+      go : (u : Turn) → at_turn u c n ≡ Ok (record { connection = d; sends = x })
+          → Ticks last (Some (c, room)) (turns u n) (gave_by room x)
       go Turn.Asking f = tt
       go Turn.Ticking f = λ k. subst (SaidStep last room) f (tick_said last c room k n)
   call_ticks last (answers e) = tt
@@ -248,5 +246,5 @@ tick_gives lent events now lends output s e =
     let x : Event = record { call = turns Turn.Ticking now; lends = lends; output = output } in
     let a : After = made host x in
     let said = call_ticks s.node _ (event_view host (all_sound lent events) s.node x)
-    (run_echo s.node events none (record { manager = new_manager; store = lent }) (new_sound lent) tt) in
+    (run_echo s.node events None (record { manager = new_manager; store = lent }) (new_sound lent) tt) in
     rw (e, eq-eqb s.node s.node refl) at said

@@ -1,4 +1,6 @@
 -- A node's connection in the table, and the others: it stands there once, in a room that no other one has.
+use Rattle.std.specs.Prelude.{All, Option, Some, None}
+use Rattle.std.proofs.lemmas.List.Elements.{All-head, All-tail}
 use Prim.Native.Nat.{ℕ, zero, suc, ◌<◌}
 use native.Mathlib.Omega.{arith}
 use mathlib.Core.Path.{◌≡◌, refl, sym, ◌∙◌, ap, subst}
@@ -13,11 +15,10 @@ use Rattle.con_rec.specs.Record.{end_of, end_with}
 use Rattle.laws.proofs.Choices.{either}
 use Rattle.man_table.specs.Sweep.{ends_in, running, unless_end, with_end}
 use Rattle.man_table.specs.Table.{blank, insert_at, insert_in}
-use Rattle.theorems.specs.Quiet.{Holding, connection, holding_in, nothing}
+use Rattle.theorems.specs.Quiet.{Holding, holding_in}
 use Rattle.theorems.specs.Story.{end_for}
-use Rattle.theorems.specs.Types.{EndFound, Outcome, SdoClientConnection as Connection}
-use Rattle.theorems.proofs.AllLists.{All, all_at}
-use Rattle.theorems.proofs.Cases.{Absent}
+use Rattle.theorems.specs.Types.{End, Reason, SdoClientConnection as Connection}
+use Rattle.theorems.proofs.Cases.{Absent, OtherNode}
 use Rattle.theorems.proofs.NodeAndRoom.{Same}
 use Rattle.theorems.proofs.Rooms.{Slotted, room_at}
 use Rattle.theorems.proofs.WalkSteps.{all_running}
@@ -52,54 +53,54 @@ module _ (node at : ℕ) where
         → (get_or l k blank).target_node_id ≡ node → Same (get_or l k blank) d → R d → Tracks node at Q l → Tracks node at R (set l k d)
     tracks_own R zero d h e s r (here f g q o) = here (s.0 ∙ f) (s.1 ∙ g) r o
     tracks_own R (suc k) d h e s r (here {c = c} {l = l} f g q o) =
-        absurd ((all_at (Other node at) l k blank (omega arith) o).node_differs e)
+        absurd ((o k blank (omega arith)).node_differs e)
     tracks_own R zero d h e s r (there o t) = absurd (o.node_differs e)
     tracks_own R (suc k) d h e s r (there {c = c} {l = l} o t) = there o (tracks_own R k d (omega arith) e s r t)
 
     -- ---- it is put among the others
     pub insert_own : (d : Connection) → d.target_node_id ≡ node → d.room ≡ at → Q d → (l : List Connection) → Others node at l
         → Tracks node at Q (insert_in d l)
-    insert_own d f g q [] o = here f g q tt
+    insert_own d f g q [] o = here f g q o
     insert_own d f g q (c ∷ l) o =
-        let rest = insert_own d f g q l o.1 in
+        let rest = insert_own d f g q l (All-tail (Other node at) c l o) in
         either (λ (k : ℕ). Tracks node at Q (insert_at k d (c ∷ l))) (ltb d.target_node_id c.target_node_id) 0 _
-        (here f g q o) (there o.0 rest)
+        (here f g q o) (there (All-head (Other node at) c l o) rest)
 
 -- ---- what is held for the node, and the end that is reported of it
 -- a connection that ended is no longer held
-abbrev pub held_after : EndFound → Connection → Bytes → Holding
-held_after EndFound.Running d room = connection d room
-held_after (EndFound.End e) d room = nothing
+abbrev pub held_after : Option End → Connection → Bytes → Holding
+held_after None d room = Some (d, room)
+held_after (Some e) d room = None
 
 module _ (node : ℕ) (store : Bytes) where
   -- where no connection of the table is the node's
-  pub nothing_held : (l : List Connection) → Absent node l → holding_in node l store ≡ nothing
+  pub nothing_held : (l : List Connection) → Absent node l → holding_in node l store ≡ None
   unfolding pick
   nothing_held [] a = refl
-  nothing_held (c ∷ l) a = rw (ne_eqb c.target_node_id node a.0) (nothing_held l a.1)
+  nothing_held (c ∷ l) a =
+      rw (ne_eqb c.target_node_id node (All-head (OtherNode node) c l a)) (nothing_held l (All-tail (OtherNode node) c l a))
 
-  pub no_end_lem : (l : List Connection) → Absent node l → end_for node (ends_in l) ≡ EndFound.Running
+  pub no_end_lem : (l : List Connection) → Absent node l → end_for node (ends_in l) ≡ None
   unfolding pick
   no_end_lem [] a = refl
-  no_end_lem (c ∷ l) a = go c.outcome (no_end_lem l a.1)
+  no_end_lem (c ∷ l) a = go c.outcome (no_end_lem l (All-tail (OtherNode node) c l a))
     where
-      go : (x : Outcome) → end_for node (ends_in l) ≡ EndFound.Running
-          → end_for node (with_end (end_with c x) (ends_in l)) ≡ EndFound.Running
-      go Outcome.Running r = r
-      go (Outcome.Ended why) r = rw (ne_eqb c.target_node_id node a.0) r
+      go : (x : Option Reason) → end_for node (ends_in l) ≡ None
+          → end_for node (with_end (end_with c x) (ends_in l)) ≡ None
+      go None r = r
+      go (Some why) r = rw (ne_eqb c.target_node_id node (All-head (OtherNode node) c l a)) r
 
 module _ (node at : ℕ) (store : Bytes) (d : Connection) where
   abbrev Stands : List Connection → Type 0
   Stands l = Tracks node at (λ (c : Connection). c ≡ d) l
 
   pub others_absent : (l : List Connection) → Others node at l → Absent node l
-  others_absent [] o = tt
-  others_absent (c ∷ l) o = (o.0.node_differs, others_absent l o.1)
+  others_absent l o = λ k x h. (o k x h).node_differs
 
-  pub tracked_holding : {l : List Connection} → Stands l → holding_in node l store ≡ connection d (room_at store at)
+  pub tracked_holding : {l : List Connection} → Stands l → holding_in node l store ≡ Some (d, room_at store at)
   unfolding pick
   tracked_holding (here {c = c} e f q o) =
-      rw (eq-eqb c.target_node_id node e, ← f) (ap (λ (x : Connection). connection x (room_at store c.room)) q)
+      rw (eq-eqb c.target_node_id node e, ← f) (ap (λ (x : Connection). Some (x, room_at store c.room)) q)
   tracked_holding (there {c = c} o t) = rw (ne_eqb c.target_node_id node o.node_differs) (tracked_holding t)
 
   -- after the sweep
@@ -113,12 +114,12 @@ module _ (node at : ℕ) (store : Bytes) (d : Connection) where
       none : Absent node (running l)
       none = others_absent (running l) (all_running (Other node at) l o)
 
-      go : (x : Outcome)
+      go : (x : Option Reason)
           → (holding_in node (unless_end (end_with c x) c (running l)) store ≡ held_after (end_with c x) c (room_at store at))
           × (end_for node (with_end (end_with c x) (ends_in l)) ≡ end_with c x)
-      go Outcome.Running =
+      go None =
           (rw (eq-eqb c.target_node_id node e, ← f) refl, no_end_lem node store l (others_absent l o))
-      go (Outcome.Ended why) = (nothing_held node store (running l) none, rw (eq-eqb c.target_node_id node e) refl)
+      go (Some why) = (nothing_held node store (running l) none, rw (eq-eqb c.target_node_id node e) refl)
 
   pub sweep : {l : List Connection} → Stands l → Swept l d
   unfolding pick
@@ -128,8 +129,8 @@ module _ (node at : ℕ) (store : Bytes) (d : Connection) where
       ne : eqb c.target_node_id node ≡ false
       ne = ne_eqb c.target_node_id node o.node_differs
 
-      go : (x : Outcome) → Swept l d
+      go : (x : Option Reason) → Swept l d
           → (holding_in node (unless_end (end_with c x) c (running l)) store ≡ held_after (end_of d) d (room_at store at))
           × (end_for node (with_end (end_with c x) (ends_in l)) ≡ end_of d)
-      go Outcome.Running r = (rw ne r.0, r.1)
-      go (Outcome.Ended why) r = (r.0, rw ne r.1)
+      go None r = (rw ne r.0, r.1)
+      go (Some why) r = (r.0, rw ne r.1)

@@ -1,4 +1,5 @@
 -- The walk of ask and tick is refused exactly when it comes to a connection that sets a deadline, and the deadline does not fit.
+use Rattle.std.specs.Prelude.{Option, Some, None, Result, Ok, Err, IsNone, IsSome}
 use Prim.Native.Nat.{ℕ}
 use native.Mathlib.Omega.{arith}
 use mathlib.Core.Path.{◌≡◌, refl}
@@ -35,33 +36,16 @@ use Rattle.connection.specs.Ask.{ask_of}
 use Rattle.connection.specs.Tick.{tick_of}
 use Rattle.man_table.specs.Walk.{Walking, passed, refused, stop_or, stopped, through, at_turn, walk_list, walk_step}
 use Rattle.theorems.specs.Causes.{Does, Meets, OutOfRange, Sets, ask_does, passes, sets, stops, tick_does, turn_does}
-use Rattle.theorems.specs.Types.{
-  Now,
-  Outgoing,
-  Refusal,
-  SdoClientConnection as Connection,
-  SdoClientConnectionState as State,
-  Sends,
-  Stepped,
-  Turn,
-}
+use Rattle.theorems.specs.Types.{Now, Outgoing, Refusal, SdoClientConnection as Connection, SdoClientConnectionState as State, Step, Turn}
 
 -- ---- what a step is, by what the connection does
-abbrev GivesNone : Sends → Type 0
-GivesNone Sends.Silent = Unit {0}
-GivesNone (Sends.Gives o) = ⊥
-
-abbrev GivesSome : Sends → Type 0
-GivesSome Sends.Silent = ⊥
-GivesSome (Sends.Gives o) = Unit {0}
-
-unfoldable StepAs : Now → Does → Stepped → Type 0
-StepAs n passes (Stepped.Went s) = GivesNone s.sends
-StepAs n passes (Stepped.Refused r) = ⊥
-StepAs n sets (Stepped.Went s) = OutOfRange n → ⊥
-StepAs n sets (Stepped.Refused r) = (r ≡ Refusal.DeadlineRange) × OutOfRange n
-StepAs n stops (Stepped.Went s) = GivesSome s.sends
-StepAs n stops (Stepped.Refused r) = ⊥
+unfoldable StepAs : Now → Does → Result Step Refusal → Type 0
+StepAs n passes (Ok s) = IsNone s.sends
+StepAs n passes (Err r) = ⊥
+StepAs n sets (Ok s) = OutOfRange n → ⊥
+StepAs n sets (Err r) = (r ≡ Refusal.DeadlineRange) × OutOfRange n
+StepAs n stops (Ok s) = IsSome s.sends
+StepAs n stops (Err r) = ⊥
 
 silent_does : (c : Connection) (n : Now) → Silent c → ask_does n c ≡ passes
 silent_does c n (waits e) = rw e
@@ -81,9 +65,9 @@ ask_as : (c : Connection) (n : Now) → StepAs n (ask_does n c) (ask_of c n)
 unfolding StepAs
 ask_as c n = go (ask_view c n)
   where
-    go : {x : Stepped} → AskView c n x → StepAs n (ask_does n c) x
-    go (silent w) = rw (silent_does c n w) tt
-    go (ends f s l p) = rw (f, s, l, p) tt
+    go : {x : Result Step Refusal} → AskView c n x → StepAs n (ask_does n c) x
+    go (silent w) = rw (silent_does c n w) refl
+    go (ends f s l p) = rw (f, s, l, p) refl
     go (gives g h) = rw (given_does c n g) (λ z. omega arith)
     go (late g h) = rw (given_does c n g) (refl, h)
 
@@ -91,10 +75,10 @@ tick_as : (c : Connection) (n : Now) → StepAs n (tick_does n c) (tick_of c n)
 unfolding StepAs pick
 tick_as c n = go (tick_view c n)
   where
-    go : {x : Stepped} → TickView c n x → StepAs n (tick_does n c) x
-    go (never e) = rw e tt
-    go (early {d} e h) = rw (e, lt-ltb n.time d h) tt
-    go (over {d} e h r) = rw (e, le-ltb n.time d h, r) tt
+    go : {x : Result Step Refusal} → TickView c n x → StepAs n (tick_does n c) x
+    go (never e) = rw e refl
+    go (early {d} e h) = rw (e, lt-ltb n.time d h) refl
+    go (over {d} e h r) = rw (e, le-ltb n.time d h, r) refl
     go (again {d} e h r k) = rw (e, le-ltb n.time d h, ne_eqb _ 0 r) (λ z. omega arith)
     go (late {d} e h r k) = rw (e, le-ltb n.time d h, ne_eqb _ 0 r) (refl, k)
 
@@ -121,26 +105,26 @@ fit_as n A B f (through k) h = λ z. f z.0
 fit_as n A B f (stopped j o k) h = λ z. f z.0
 
 module _ (n : Now) (Rest : Type 0) (l : List Connection) (w : Walking) (h : RefusedIf (OutOfRange n × Rest) w) where
-  passes_as : (x : Sends) (d : Connection) → GivesNone x → RefusedIf (OutOfRange n × Rest) (stop_or x d l w)
-  passes_as Sends.Silent d g = pass_as _ d w h
-  passes_as (Sends.Gives o) d g = absurd g
+  passes_as : (x : Option Outgoing) (d : Connection) → IsNone x → RefusedIf (OutOfRange n × Rest) (stop_or x d l w)
+  passes_as None d g = pass_as _ d w h
+  passes_as (Some o) d g = cc
 
-  sets_as : (x : Sends) (d : Connection) → (OutOfRange n → ⊥) → RefusedIf (OutOfRange n × Unit {0}) (stop_or x d l w)
-  sets_as Sends.Silent d f = pass_as _ d w (fit_as n Rest (Unit {0}) f w h)
-  sets_as (Sends.Gives o) d f = λ z. f z.0
+  sets_as : (x : Option Outgoing) (d : Connection) → (OutOfRange n → ⊥) → RefusedIf (OutOfRange n × Unit {0}) (stop_or x d l w)
+  sets_as None d f = pass_as _ d w (fit_as n Rest (Unit {0}) f w h)
+  sets_as (Some o) d f = λ z. f z.0
 
-  stops_as : (x : Sends) (d : Connection) → GivesSome x → RefusedIf (OutOfRange n × ⊥) (stop_or x d l w)
-  stops_as Sends.Silent d g = absurd g
-  stops_as (Sends.Gives o) d g = λ z. z.1
+  stops_as : (x : Option Outgoing) (d : Connection) → IsSome x → RefusedIf (OutOfRange n × ⊥) (stop_or x d l w)
+  stops_as None d g = cc
+  stops_as (Some o) d g = λ z. z.1
 
-  step_walk : (k : Does) (s : Stepped) → StepAs n k s → RefusedIf (OutOfRange n × Meets k Rest) (walk_step s l w)
+  step_walk : (k : Does) (s : Result Step Refusal) → StepAs n k s → RefusedIf (OutOfRange n × Meets k Rest) (walk_step s l w)
   unfolding StepAs
-  step_walk passes (Stepped.Went s) g = passes_as s.sends s.connection g
-  step_walk passes (Stepped.Refused r) g = absurd g
-  step_walk sets (Stepped.Went s) g = sets_as s.sends s.connection g
-  step_walk sets (Stepped.Refused r) g = (g.0, (g.1, tt))
-  step_walk stops (Stepped.Went s) g = stops_as s.sends s.connection g
-  step_walk stops (Stepped.Refused r) g = absurd g
+  step_walk passes (Ok s) g = passes_as s.sends s.connection g
+  step_walk passes (Err r) g = absurd g
+  step_walk sets (Ok s) g = sets_as s.sends s.connection g
+  step_walk sets (Err r) g = (g.0, (g.1, tt))
+  step_walk stops (Ok s) g = stops_as s.sends s.connection g
+  step_walk stops (Err r) g = absurd g
 
 pub walk_if : (t : Turn) (n : Now) (l : List Connection) → RefusedIf (OutOfRange n × Sets (turn_does t n) l) (walk_list t n l)
 walk_if t n [] = λ z. z.1

@@ -1,4 +1,6 @@
 -- What is handed out where a read ends Complete is what its accepted replies brought; every other call answers no value.
+use Rattle.std.specs.Prelude.{Option, Some, None, Result, Ok, Err, IfSome}
+use Rattle.std.proofs.lemmas.Option.{some_pair_parts}
 use Prim.Native.Nat.{ℕ, ◌+◌, ◌≤◌}
 use native.Mathlib.Omega.{arith}
 use mathlib.Core.Path.{◌≡◌, refl, sym, ◌∙◌, ap, subst}
@@ -28,28 +30,25 @@ use Rattle.man_table.specs.Walk.{at_turn}
 use Rattle.man_value.proofs.ValueRoom.{value_room}
 use Rattle.man_value.specs.Value.{is_complete, object_at, value_in}
 use Rattle.theorems.specs.Demand.{job_of}
-use Rattle.theorems.specs.Quiet.{Holding, connection, holding, holding_in, nothing as unheld}
+use Rattle.theorems.specs.Quiet.{Holding, holding, holding_in}
 use Rattle.theorems.specs.Run.{Event, Host, Lends, another, made, next, own, reached, reported, run}
 use Rattle.theorems.specs.Sound.{Reached, Sane, Sound}
-use Rattle.theorems.specs.Story.{Gave, Log, Story, end_for, follow, gave_to, heard, none, told, told_by, untold}
+use Rattle.theorems.specs.Story.{Gave, Log, Story, end_for, follow, gave_to, heard, told, told_by, untold}
 use Rattle.theorems.specs.Types.{
   Answer,
-  EndFound,
-  Found,
+  End,
   Mode,
   Now,
-  Outcome,
-  PendingRead,
+  Outgoing,
   Reason,
   Refusal,
   SdoClientConnection as Connection,
   SdoClientManager as Manager,
-  Sends,
-  Stepped,
+  Step,
   StorePart,
   Turn,
 }
-use Rattle.theorems.specs.Values.{Concerns, EndsComplete, IsComplete, ObjectNamed, Values, ValuesAlone, ValuesWithin, bytes, due_by, due_for, handed, nothing}
+use Rattle.theorems.specs.Values.{Concerns, EndsComplete, IsComplete, ObjectNamed, Values, ValuesAlone, ValuesWithin, due_by, due_for, handed}
 use Rattle.theorems.proofs.ConnectionAfter.{after_giving, after_repeating}
 use Rattle.theorems.proofs.AllReached.{all_sound, run_sound}
 use Rattle.theorems.proofs.Cases.{Shown, not_refused, turn_by}
@@ -69,7 +68,7 @@ use Rattle.theorems.proofs.WrongStore.{wrong_store}
 
 -- ---- starts, ticks and asks answer no value
 abbrev NoValue : Answer → Type 0
-NoValue a = (store : Bytes) → handed a store ≡ nothing
+NoValue a = (store : Bytes) → handed a store ≡ None
 
 abbrev UnlessReply : Call → Answer → Type 0
 UnlessReply (starts k job n) a = NoValue a
@@ -104,38 +103,38 @@ event_silent h x = go x.lends
 
 -- ---- a job, by what its connection's steps leave due
 -- no value is due while a job runs
-runs_on : (job : Job) (value : Bytes) → due_for job EndFound.Running value ≡ nothing
+runs_on : (job : Job) (value : Bytes) → due_for job None value ≡ None
 runs_on (writes mode index sub content) value = refl
 runs_on (reads mode index sub) value = refl
 runs_on (loads mode dcf) value = refl
 
 module _ (job : Job) (entries : List Bytes) (Runs : Running) (Ends : Ending) (kept : Kept entries Runs Ends)
-    (turned : (s : Story) (c : Connection) (room : Bytes) → On entries Runs Ends kept s c room → (t : Turn) (n : Now) (d : Connection) (x : Sends)
-    → at_turn t c n ≡ Stepped.Went (record { connection = d; sends = x }) → (value : Bytes) → due_for job (end_of d) value ≡ nothing)
+    (turned : (s : Story) (c : Connection) (room : Bytes) → On entries Runs Ends kept s c room → (t : Turn) (n : Now) (d : Connection) (x : Option Outgoing)
+    → at_turn t c n ≡ Ok (record { connection = d; sends = x }) → (value : Bytes) → due_for job (end_of d) value ≡ None)
     (answered : (s t : Story) (c d : Connection) (room store : Bytes) → On entries Runs Ends kept s c room → SameRead c d
     → Onward entries Runs Ends kept t (room_in store c) d → handed (value_of d) store ≡ due_for job (end_of d) t.brought)
     (node : ℕ) where
-  abbrev Says : Story → Holding → Call → Answer → Gave → EndFound → Bytes → Type 0
-  Says s unheld x a g e b = Unit {0}
-  Says s (connection c room) x a g e b =
+  abbrev Says : Story → Holding → Call → Answer → Gave → Option End → Bytes → Type 0
+  Says s None x a g e b = Unit {0}
+  Says s (Some (c, room)) x a g e b =
       On entries Runs Ends kept s c room → Consistent c room → Concerns node x → UnlessReply x a → (store : Bytes) → b ≡ room_in store c
       → handed a store ≡ due_for job e (told_by entries node s x a g).brought
 
-  rest : (s : Story) (h : Holding) (x : Call) (a : Answer) → Apart node x a → Says s h x a none EndFound.Running (bytes_of h)
-  rest s unheld x a p = tt
-  rest s (connection c room) (starts k other n) a p = λ on i same u store f. u store ∙ sym (runs_on job _)
-  rest s (connection c room) (turns t n) a p = λ on i same u store f. u store ∙ sym (runs_on job _)
-  rest s (connection c room) (replies k seq cmd payload) a (inl ne) = λ on i same u store f. absurd (ne same)
-  rest s (connection c room) (replies k seq cmd payload) Answer.Nothing (inr p) = absurd p
-  rest s (connection c room) (replies k seq cmd payload) (Answer.Sent x) (inr p) = absurd p
-  rest s (connection c room) (replies k seq cmd payload) (Answer.Value part) (inr p) = absurd p
-  rest s (connection c room) (replies k seq cmd payload) (Answer.Refused r) (inr p) = λ on i same u store f. sym (runs_on job _)
+  rest : (s : Story) (h : Holding) (x : Call) (a : Answer) → Apart node x a → Says s h x a None None (bytes_of h)
+  rest s None x a p = tt
+  rest s (Some (c, room)) (starts k other n) a p = λ on i same u store f. u store ∙ sym (runs_on job _)
+  rest s (Some (c, room)) (turns t n) a p = λ on i same u store f. u store ∙ sym (runs_on job _)
+  rest s (Some (c, room)) (replies k seq cmd payload) a (inl ne) = λ on i same u store f. absurd (ne same)
+  rest s (Some (c, room)) (replies k seq cmd payload) Answer.Nothing (inr p) = absurd p
+  rest s (Some (c, room)) (replies k seq cmd payload) (Answer.Sent x) (inr p) = absurd p
+  rest s (Some (c, room)) (replies k seq cmd payload) (Answer.Value part) (inr p) = absurd p
+  rest s (Some (c, room)) (replies k seq cmd payload) (Answer.Refused r) (inr p) = λ on i same u store f. sym (runs_on job _)
 
-  begin : (s : Story) (h : Holding) (other : Job) (n : Now) (a : Answer) (b : Bytes) → Says s h (starts node other n) a none EndFound.Running b
-  begin s unheld other n a b = tt
-  begin s (connection c room) other n a b = λ on i same u store f. u store ∙ sym (runs_on job _)
+  begin : (s : Story) (h : Holding) (other : Job) (n : Now) (a : Answer) (b : Bytes) → Says s h (starts node other n) a None None b
+  begin s None other n a b = tt
+  begin s (Some (c, room)) other n a b = λ on i same u store f. u store ∙ sym (runs_on job _)
 
-  say : (s : Story) {h : Holding} {x : Call} {a : Answer} {g : Gave} {e : EndFound} {i : Holding} {b : Bytes} → NodeView node h x a g e i b
+  say : (s : Story) {h : Holding} {x : Call} {a : Answer} {g : Gave} {e : Option End} {i : Holding} {b : Bytes} → NodeView node h x a g e i b
       → Says s h x a g e b
   unfolding pick
   say s (rests {h} {x} {a} p) = rest s h x a p
@@ -166,40 +165,37 @@ module _ (job : Job) (entries : List Bytes) (Runs : Running) (Ends : Ending) (ke
       consistent (sane, e) = subst (Consistent still.held_by) (sym e) sane.consistent
 
 -- ---- a write and a DCF have no value
-none_due : (job : Sending) (e : EndFound) (value : Bytes) → due_for (job_of job) e value ≡ nothing
+none_due : (job : Sending) (e : Option End) (value : Bytes) → due_for (job_of job) e value ≡ None
 none_due (sends_write mode index sub content) e value = refl
 none_due (sends_dcf mode dcf) e value = refl
 
-none_brought : (d : Connection) → d.job.pending_read ≡ PendingRead.NoRead → NoValue (value_of d)
+none_brought : (d : Connection) → d.job.pending_read ≡ None → NoValue (value_of d)
 none_brought d p store = go d.outcome
   where
-    go : (x : Outcome) → handed (value_by x d) store ≡ nothing
-    go Outcome.Running = refl
-    go (Outcome.Ended why) = either (λ (a : Answer). handed a store ≡ nothing) (is_complete why) _ _ (rw p refl) refl
+    go : (x : Option Reason) → handed (value_by x d) store ≡ None
+    go None = refl
+    go (Some why) = either (λ (a : Answer). handed a store ≡ None) (is_complete why) _ _ (rw p refl) refl
 
 -- ---- a read
-reads_no : {index sub : ℕ} → PendingRead.Read index sub ≡ PendingRead.NoRead → ⊥
-reads_no e = let z : ◌≡◌ {A = ℕ} 0 1 = cc e in absurd (omega arith)
-
 module _ (mode : Mode) (index sub : ℕ) where
   abbrev Going : Story → Connection → Bytes → Type 0
   Going s c room = On [] (ReadsRun index sub) (ReadsEnd index sub) (reads_kept index sub) s c room
 
-  abbrev Due : Stepped → Type 0
-  Due (Stepped.Went x) = (value : Bytes) → due_for (reads mode index sub) (end_of x.connection) value ≡ nothing
-  Due (Stepped.Refused r) = Unit {0}
+  abbrev Due : Result Step Refusal → Type 0
+  Due (Ok x) = (value : Bytes) → due_for (reads mode index sub) (end_of x.connection) value ≡ None
+  Due (Err r) = Unit {0}
 
   -- no turn ends it Complete
   module _ (s : Story) (c : Connection) (room : Bytes) (on : Going s c room) (n : Now) where
-    goes : (d : Connection) → d.outcome ≡ Outcome.Running → (value : Bytes) → due_for (reads mode index sub) (end_of d) value ≡ nothing
+    goes : (d : Connection) → d.outcome ≡ None → (value : Bytes) → due_for (reads mode index sub) (end_of d) value ≡ None
     goes d e value = rw e refl
 
     ask_due : Due (ask_of c n)
     ask_due = go (ask_view c n)
       where
-        go : {x : Stepped} → AskView c n x → Due x
+        go : {x : Result Step Refusal} → AskView c n x → Due x
         go (silent w) = goes c on.runs
-        go (ends f e l p) = absurd (reads_no (sym on.is.pending ∙ p))
+        go (ends f e l p) = cc (on.is.pending)
         go (gives {s = x} {sent} {o} g h) = goes (after_giving c n x sent o) on.runs
         go (late g h) = tt
 
@@ -207,15 +203,15 @@ module _ (mode : Mode) (index sub : ℕ) where
     unfolding pick
     tick_due_lem = go (tick_view c n)
       where
-        go : {x : Stepped} → TickView c n x → Due x
+        go : {x : Result Step Refusal} → TickView c n x → Due x
         go (never e) = goes c on.runs
         go (early e h) = goes c on.runs
         go (over e h r) = λ value. refl
         go (again e h r k) = goes (after_repeating c n) on.runs
         go (late e h r k) = tt
 
-  turn_due : (s : Story) (c : Connection) (room : Bytes) → Going s c room → (t : Turn) (n : Now) (d : Connection) (x : Sends)
-      → at_turn t c n ≡ Stepped.Went (record { connection = d; sends = x }) → (value : Bytes) → due_for (reads mode index sub) (end_of d) value ≡ nothing
+  turn_due : (s : Story) (c : Connection) (room : Bytes) → Going s c room → (t : Turn) (n : Now) (d : Connection) (x : Option Outgoing)
+      → at_turn t c n ≡ Ok (record { connection = d; sends = x }) → (value : Bytes) → due_for (reads mode index sub) (end_of d) value ≡ None
   turn_due s c room on Turn.Asking n d x e = subst Due e (ask_due s c room on n)
   turn_due s c room on Turn.Ticking n d x e = subst Due e (tick_due_lem s c room on n)
 
@@ -229,12 +225,12 @@ module _ (mode : Mode) (index sub : ℕ) where
       there : room_in store c ≡ room_in store d
       there = ap (room_at store) (sym same.0.1)
 
-      pending : d.job.pending_read ≡ PendingRead.Read index sub
+      pending : d.job.pending_read ≡ Some (record { index = index; sub_index = sub })
       pending = same.1 ∙ on.is.pending
 
       by_reason : (why : Reason) → ReadsEnd index sub t (room_in store d) why d.job
           → handed (pick (is_complete why) (value_for d.job.pending_read d) Answer.Nothing) store ≡ due_by why t.brought
-      by_reason Reason.Complete o = rw pending (ap bytes (value_room store d o.2.0 ∙ o.2.1))
+      by_reason Reason.Complete o = rw pending (ap Some (value_room store d o.2.0 ∙ o.2.1))
       by_reason Reason.Cut o = refl
       by_reason Reason.OpenRefused o = refl
       by_reason Reason.Sequence o = refl
@@ -242,16 +238,16 @@ module _ (mode : Mode) (index sub : ℕ) where
       by_reason Reason.Timeout o = refl
       by_reason Reason.BadSegment o = refl
 
-      go : (x : Outcome) → OnBy [] (ReadsRun index sub) (ReadsEnd index sub) (reads_kept index sub) t (room_in store c) d x
+      go : (x : Option Reason) → OnBy [] (ReadsRun index sub) (ReadsEnd index sub) (reads_kept index sub) t (room_in store c) d x
           → handed (value_by x d) store ≡ due_for (reads mode index sub) (end_with d x) t.brought
-      go Outcome.Running o = refl
-      go (Outcome.Ended why) o = by_reason why (subst (λ (b : Bytes). ReadsEnd index sub t b why d.job) there o)
+      go None o = refl
+      go (Some why) o = by_reason why (subst (λ (b : Bytes). ReadsEnd index sub t b why d.job) there o)
 
 -- ---- of any calls
 sends_hands : (lent : Bytes) (earlier : List Event) (node : ℕ) (job : Sending) (now : Now) (later : List Event) (x : Event)
     → let log : Log = follow (entries_of job) node untold (after lent earlier node (job_of job) now) later in
     let before : Host = run (after lent earlier node (job_of job) now) later in
-    (start lent earlier node (job_of job) now).done.answer ≡ Answer.Nothing → log.outcome ≡ Outcome.Running → Concerns node x.call
+    (start lent earlier node (job_of job) now).done.answer ≡ Answer.Nothing → log.outcome ≡ None → Concerns node x.call
     → handed (made before x).done.answer (next before x).store
     ≡ due_for (job_of job) (end_for node (reported (made before x))) (told (entries_of job) node log.story x.call (made before x)).brought
 sends_hands lent earlier node job now later x e r same =
@@ -285,20 +281,20 @@ values lent earlier node (writes mode index sub content) now later x e r same = 
 values lent earlier node (loads mode dcf) now later x e r same = sends_hands lent earlier node (sends_dcf mode dcf) now later x e r same
 
 -- ---- the object that the manager names
-found_there : (node : ℕ) (store : Bytes) (c : Connection) (room : Bytes) (l : List Connection) → holding_in node l store ≡ connection c room
+found_there : (node : ℕ) (store : Bytes) (c : Connection) (room : Bytes) (l : List Connection) → holding_in node l store ≡ Some (c, room)
     → object_at (find_in node l) l ≡ c.job.pending_read
 unfolding pick
-found_there node store c room [] e = let z : ◌≡◌ {A = ℕ} 0 1 = cc e in absurd (omega arith)
+found_there node store c room [] e = cc
 found_there node store c room (d ∷ l) e = go (eqb d.target_node_id node) e (found_there node store c room l)
   where
-    further : (f : Found) → object_at (one_further f) (d ∷ l) ≡ object_at f l
-    further (Found.At k) = refl
-    further Found.Absent = refl
+    further : (f : Option ℕ) → object_at (one_further f) (d ∷ l) ≡ object_at f l
+    further (Some k) = refl
+    further None = refl
 
-    go : (b : Bool) → pick b (connection d (room_in store d)) (holding_in node l store) ≡ connection c room
-        → (holding_in node l store ≡ connection c room → object_at (find_in node l) l ≡ c.job.pending_read)
-        → object_at (pick b (Found.At 0) (one_further (find_in node l))) (d ∷ l) ≡ c.job.pending_read
-    go true h more = let same : d ≡ c = cc h in ap (λ (x : Connection). x.job.pending_read) same
+    go : (b : Bool) → pick b (Some (d, room_in store d)) (holding_in node l store) ≡ Some (c, room)
+        → (holding_in node l store ≡ Some (c, room) → object_at (find_in node l) l ≡ c.job.pending_read)
+        → object_at (pick b (Some 0) (one_further (find_in node l))) (d ∷ l) ≡ c.job.pending_read
+    go true h more = ap (λ (x : Connection). x.job.pending_read) (some_pair_parts d c (room_in store d) room h).0
     go false h more = further (find_in node l) ∙ more h
 
 pub object_named : ObjectNamed
@@ -313,18 +309,18 @@ object_named lent earlier node mode index sub now later e r =
 module _ (store value : Bytes) where
   -- where a value was answered, this is so
   abbrev IfValue : Answer → Type 0 → Type 0
-  IfValue a so = handed a store ≡ bytes value → so
+  IfValue a so = handed a store ≡ Some value → so
 
-  no_value_lem : {so : Type 0} → nothing ≡ bytes value → so
-  no_value_lem e = let z : ◌≡◌ {A = ℕ} 0 1 = cc e in absurd (omega arith)
+  no_value_lem : {so : Type 0} → None ≡ Some value → so
+  no_value_lem e = cc
 
   module _ (node : ℕ) where
-    abbrev Alone : Call → Answer → EndFound → Type 0
+    abbrev Alone : Call → Answer → Option End → Type 0
     Alone (starts k job n) a e = Unit {0}
     Alone (turns t n) a e = Unit {0}
     Alone (replies k seq cmd payload) a e = k ≡ node → IfValue a (IsComplete e)
 
-    apart_alone : (x : Call) (a : Answer) → Apart node x a → Alone x a EndFound.Running
+    apart_alone : (x : Call) (a : Answer) → Apart node x a → Alone x a None
     apart_alone (starts k job n) a p = tt
     apart_alone (turns t n) a p = tt
     apart_alone (replies k seq cmd payload) a (inl ne) = λ same. absurd (ne same)
@@ -333,18 +329,18 @@ module _ (store value : Bytes) where
     apart_alone (replies k seq cmd payload) (Answer.Value part) (inr p) = absurd p
     apart_alone (replies k seq cmd payload) (Answer.Refused r) (inr p) = λ same. no_value_lem
 
-    ended_alone : (d : Connection) (x : Outcome) → IfValue (value_by x d) (IsComplete (end_with d x))
+    ended_alone : (d : Connection) (x : Option Reason) → IfValue (value_by x d) (IsComplete (end_with d x))
     unfolding pick
-    ended_alone d Outcome.Running = no_value_lem
-    ended_alone d (Outcome.Ended Reason.Complete) = λ e. refl
-    ended_alone d (Outcome.Ended Reason.Cut) = no_value_lem
-    ended_alone d (Outcome.Ended Reason.OpenRefused) = no_value_lem
-    ended_alone d (Outcome.Ended Reason.Sequence) = no_value_lem
-    ended_alone d (Outcome.Ended (Reason.PeerAborted code)) = no_value_lem
-    ended_alone d (Outcome.Ended Reason.Timeout) = no_value_lem
-    ended_alone d (Outcome.Ended Reason.BadSegment) = no_value_lem
+    ended_alone d None = no_value_lem
+    ended_alone d (Some Reason.Complete) = λ e. refl
+    ended_alone d (Some Reason.Cut) = no_value_lem
+    ended_alone d (Some Reason.OpenRefused) = no_value_lem
+    ended_alone d (Some Reason.Sequence) = no_value_lem
+    ended_alone d (Some (Reason.PeerAborted code)) = no_value_lem
+    ended_alone d (Some Reason.Timeout) = no_value_lem
+    ended_alone d (Some Reason.BadSegment) = no_value_lem
 
-    view_alone : {h : Holding} {x : Call} {a : Answer} {g : Gave} {e : EndFound} {i : Holding} {b : Bytes} → NodeView node h x a g e i b → Alone x a e
+    view_alone : {h : Holding} {x : Call} {a : Answer} {g : Gave} {e : Option End} {i : Holding} {b : Bytes} → NodeView node h x a g e i b → Alone x a e
     view_alone (rests {h} {x} {a} p) = apart_alone x a p
     view_alone unknown = λ same. no_value_lem
     view_alone (begins c t room seat e) = tt
@@ -362,7 +358,7 @@ values_alone lent earlier x store value = go x.call refl
     a : After
     a = made h x
 
-    go : (y : Call) → x.call ≡ y → handed a.done.answer store ≡ bytes value → EndsComplete y (reported a)
+    go : (y : Call) → x.call ≡ y → handed a.done.answer store ≡ Some value → EndsComplete y (reported a)
     go (starts k job n) f e = no_value_lem store value (sym (subst (λ (y : Call). UnlessReply y a.done.answer) f (event_silent h x) store) ∙ e)
     go (turns t n) f e = no_value_lem store value (sym (subst (λ (y : Call). UnlessReply y a.done.answer) f (event_silent h x) store) ∙ e)
     go (replies k seq cmd payload) f e =
@@ -376,8 +372,7 @@ module _ (part : StorePart) where
 
   -- what is held is consistent, and its room is one
   abbrev Fits : Holding → Type 0
-  Fits unheld = Unit {0}
-  Fits (connection c room) = Consistent c room × (length room ≤ room_size)
+  Fits h = IfSome h (λ (p : Connection × Bytes). Consistent p.0 p.1 × (length p.1 ≤ room_size))
 
   module _ (node : ℕ) where
     abbrev Lies : Holding → Call → Answer → Type 0
@@ -391,9 +386,9 @@ module _ (part : StorePart) where
     rest_lies h (replies k seq cmd payload) a (inl ne) = λ q same e. absurd (ne same)
     rest_lies h (replies k seq cmd payload) a (inr p) = λ q same e. absurd (subst IsRefused e p)
 
-    view_lies : {h : Holding} {x : Call} {a : Answer} {g : Gave} {e : EndFound} {i : Holding} {b : Bytes} → NodeView node h x a g e i b → Lies h x a
+    view_lies : {h : Holding} {x : Call} {a : Answer} {g : Gave} {e : Option End} {i : Holding} {b : Bytes} → NodeView node h x a g e i b → Lies h x a
     view_lies (rests {h} {x} {a} p) = rest_lies h x a p
-    view_lies unknown = λ q same e. let z : ◌≡◌ {A = ℕ} 0 1 = cc e in absurd (omega arith)
+    view_lies unknown = λ q same e. cc
     view_lies (begins c t room seat e) = tt
     view_lies idles = tt
     view_lies (steps e) = tt
@@ -406,8 +401,8 @@ module _ (part : StorePart) where
         subst (λ (y : StorePart). (y.start + y.length ≤ store_size) × (y.length ≤ room_size)) (value_as d part f) (omega (arith, few), few)
 
   fits : (h : Host) → Sound h.manager h.store → (node : ℕ) (y : Holding) → holding h.manager h.store node ≡ y → Fits y
-  fits h sound node unheld e = tt
-  fits h sound node (connection c room) e =
+  fits h sound node None e = tt
+  fits h sound node (Some (c, room)) e =
       let s = held_is node h.store (Sane h.store) (live h.manager) sound.each c room e in
       let n = ap length s.1 ∙ length-take room_size (drop (room_start c) h.store) in (subst (Consistent c) (sym s.1) s.0.consistent, omega (arith, n))
 

@@ -1,4 +1,5 @@
 -- Jobs run by the calls, computed: P7, P8, P9, a write, and P8 repaired; and with body: several parts, a node that was used before, a run that is disturbed.
+use Rattle.std.specs.Prelude.{Some, None, Ok, Err}
 use Prim.Native.Nat.{ℕ}
 use mathlib.Core.Path.{◌≡◌, refl}
 use mathlib.Core.List.{[], ◌∷◌, map}
@@ -7,10 +8,7 @@ use Rattle.laws.specs.Pick.{among, pick}
 use Rattle.codec.specs.Bytes.{part_at, placed}
 use Rattle.codec.specs.Dcf.{dcf_step, sent_as}
 use Rattle.codec.specs.Writing.{buffer_after}
-use Rattle.codec.specs.declared.refusal.Refusal.{Refusal}
 use Rattle.codec_salvage.specs.Salvage.{output_after, repaired, salvaged, told_of}
-use Rattle.codec_salvage.specs.declared.FirstDropped.{FirstDropped}
-use Rattle.codec_salvage.specs.declared.SalvageAnswer.{SalvageAnswer}
 use Rattle.connection.specs.Ask.{ask_of, given}
 use Rattle.con_rec.specs.Deadline.{deadline_of}
 use Rattle.con_reply.specs.Reply.{reply_of, room_for}
@@ -20,18 +18,17 @@ use Rattle.manager.specs.Calls.{called, loads, reads, reply_from, seat_in, start
 use Rattle.manager.specs.Change.{change_done, entered_at, number_after}
 use Rattle.man_table.specs.Table.{free_room, store_size, target_of}
 use Rattle.theorems.specs.Edges.{first, p7, p8, second}
-use Rattle.theorems.specs.Types.{Answer, Mode, Outcome, Reason, Segmentation}
+use Rattle.theorems.specs.Types.{Answer, Mode, Reason, Refusal, Segmentation}
 use Rattle.theorems.specs.Run.{next, reached, starting}
-use Rattle.theorems.specs.Values.{bytes, nothing}
 use Rattle.theorems.specs.Worked.{by_turns, call, disturbed, early, handed_by, ran, rounds, sent_kinds, silent, straddling, uploaded, used, worked}
 
 pub works :
     map worked (loads Mode.Repository p7 ∷ loads Mode.Repository p8 ∷ loads Mode.Repository (0 ∷ 0 ∷ 0 ∷ 0 ∷ []) ∷ writes Mode.Repository 0x2100 1 (1 ∷ 4 ∷ []) ∷ loads Mode.Repository (repaired p8) ∷ [])
-    ≡ record { answer = Answer.Nothing; got = first ∷ second ∷ []; brought = []; outcome = Outcome.Ended Reason.Complete; figure = 2 }
-    ∷ record { answer = Answer.Nothing; got = first ∷ []; brought = []; outcome = Outcome.Ended Reason.Cut; figure = 1 }
-    ∷ record { answer = Answer.Nothing; got = []; brought = []; outcome = Outcome.Ended Reason.Complete; figure = 0 }
-    ∷ record { answer = Answer.Nothing; got = first ∷ []; brought = []; outcome = Outcome.Ended Reason.Complete; figure = 1 }
-    ∷ record { answer = Answer.Nothing; got = first ∷ []; brought = []; outcome = Outcome.Ended Reason.Complete; figure = 1 }
+    ≡ record { answer = Answer.Nothing; got = first ∷ second ∷ []; brought = []; outcome = Some Reason.Complete; figure = 2 }
+    ∷ record { answer = Answer.Nothing; got = first ∷ []; brought = []; outcome = Some Reason.Cut; figure = 1 }
+    ∷ record { answer = Answer.Nothing; got = []; brought = []; outcome = Some Reason.Complete; figure = 0 }
+    ∷ record { answer = Answer.Nothing; got = first ∷ []; brought = []; outcome = Some Reason.Complete; figure = 1 }
+    ∷ record { answer = Answer.Nothing; got = first ∷ []; brought = []; outcome = Some Reason.Complete; figure = 1 }
     ∷ []
 unfolding pick among placed dcf_step buffer_after ask_of given deadline_of reply_of room_for start_dcf start_read start_write started
     tick_of reply_from seat_in start_of target_of turn_of free_room called change_done entered_at number_after repaired
@@ -46,11 +43,11 @@ pub repair_works :
     ∷ salvaged (replicate 4097 0) []
     ∷ salvaged p8 (replicate 12 9)
     ∷ []
-    ≡ SalvageAnswer.Salvaged (record { old_count = 2; new_count = 1; length = 13; dropped = 6; first_dropped = FirstDropped.At 13 })
-    ∷ SalvageAnswer.Salvaged (record { old_count = 2; new_count = 2; length = 20; dropped = 0; first_dropped = FirstDropped.NoneDropped })
-    ∷ SalvageAnswer.Refused Refusal.DcfTooShort
-    ∷ SalvageAnswer.Refused Refusal.NoRoom
-    ∷ SalvageAnswer.Refused Refusal.BufferTooShort
+    ≡ Ok (record { old_count = 2; new_count = 1; length = 13; dropped = 6; first_dropped = Some 13 })
+    ∷ Ok (record { old_count = 2; new_count = 2; length = 20; dropped = 0; first_dropped = None })
+    ∷ Err Refusal.DcfTooShort
+    ∷ Err Refusal.NoRoom
+    ∷ Err Refusal.BufferTooShort
     ∷ [])
 unfolding pick buffer_after repaired told_of salvaged output_after
 repair_works = (refl, refl)
@@ -64,17 +61,17 @@ pub works_on :
     ∷ ran [] (reads Mode.Repository 0x2100 1) uploaded
     ∷ ran [] (loads Mode.Repository p7) silent
     ∷ []
-    ≡ record { answer = Answer.Nothing; got = sent_as 0x2100 1 (replicate 3000 7) ∷ []; brought = []; outcome = Outcome.Ended Reason.Complete; figure = 1 }
-    ∷ record { answer = Answer.Nothing; got = first ∷ second ∷ []; brought = []; outcome = Outcome.Ended Reason.Complete; figure = 2 }
-    ∷ record { answer = Answer.Nothing; got = first ∷ second ∷ []; brought = []; outcome = Outcome.Ended Reason.Complete; figure = 2 }
+    ≡ record { answer = Answer.Nothing; got = sent_as 0x2100 1 (replicate 3000 7) ∷ []; brought = []; outcome = Some Reason.Complete; figure = 1 }
+    ∷ record { answer = Answer.Nothing; got = first ∷ second ∷ []; brought = []; outcome = Some Reason.Complete; figure = 2 }
+    ∷ record { answer = Answer.Nothing; got = first ∷ second ∷ []; brought = []; outcome = Some Reason.Complete; figure = 2 }
     ∷ record {
       answer = Answer.Nothing;
       got = sent_as 0x2100 1 [] ∷ [];
       brought = 1 ∷ 2 ∷ 3 ∷ 4 ∷ 5 ∷ [];
-      outcome = Outcome.Ended Reason.Complete;
+      outcome = Some Reason.Complete;
       figure = 0;
     }
-    ∷ record { answer = Answer.Nothing; got = first ∷ second ∷ []; brought = []; outcome = Outcome.Ended Reason.Timeout; figure = 1 }
+    ∷ record { answer = Answer.Nothing; got = first ∷ second ∷ []; brought = []; outcome = Some Reason.Timeout; figure = 1 }
     ∷ []
 unfolding pick among placed dcf_step buffer_after ask_of given deadline_of reply_of room_for start_dcf start_read start_write started
     tick_of reply_from seat_in start_of target_of turn_of free_room called change_done entered_at number_after
@@ -99,7 +96,7 @@ straddles differs = refl
 -- the read in segments: its value is handed out after its last reply, and nothing before
 pub hands_out :
     handed_by (next (reached (replicate 32768 0) []) (starting 5 (reads Mode.Repository 0x2100 1) early)) uploaded
-    ≡ nothing ∷ nothing ∷ nothing ∷ nothing ∷ nothing ∷ nothing ∷ nothing ∷ bytes (1 ∷ 2 ∷ 3 ∷ 4 ∷ 5 ∷ []) ∷ []
+    ≡ None ∷ None ∷ None ∷ None ∷ None ∷ None ∷ None ∷ Some (1 ∷ 2 ∷ 3 ∷ 4 ∷ 5 ∷ []) ∷ []
 unfolding pick among part_at placed dcf_step buffer_after ask_of given deadline_of reply_of room_for start_dcf start_read start_write started
     tick_of reply_from seat_in start_of target_of turn_of free_room called change_done entered_at number_after
 hands_out = refl

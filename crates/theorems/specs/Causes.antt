@@ -1,6 +1,7 @@
 -- Each refusal of each call of the manager, given exactly when document 01's column says ("Numbers that refuse"), in the order of its
 -- checks: starts 9, 6, 4, 5, 7, 8; tick and ask 9, 1, then the walk's 8; a reply 9, then 7.
-use Rattle.std.specs.Prelude.{ℕ, ◌+◌, ◌%◌, ◌<◌, ◌≡◌, false, List, [], ◌∷◌, ltb, eqb, length}
+use Rattle.std.specs.Prelude.{ℕ, ◌+◌, ◌%◌, ◌<◌, ◌≡◌, false, List, [], ◌∷◌, ltb, eqb, length, Option, Some, None, IsSomeAnd}
+use Rattle.codec.specs.declared.request.ReadByIndexRequest.{ReadByIndexRequest}
 use Rattle.laws.specs.Checks.{Check, First, check}
 use Rattle.laws.specs.Pick.{pick}
 use Rattle.codec.specs.Bytes.{Bytes}
@@ -11,12 +12,8 @@ use Rattle.man_table.specs.Table.{find_in, live, room_size, store_size, held_at}
 use Rattle.theorems.specs.Run.{Event, Host, lent_store, made, reached}
 use Rattle.theorems.specs.Types.{
   Answer,
-  Deadline,
-  Found,
-  LoadedTransfer,
   Now,
-  Outstanding,
-  PendingRead,
+  Outgoing,
   Refusal,
   SdoClientConnection,
   SdoClientConnectionState,
@@ -24,6 +21,7 @@ use Rattle.theorems.specs.Types.{
   SdoCommand,
   Segmentation,
   SequenceLayerHeader,
+  Transfer,
   Turn,
 }
 
@@ -37,14 +35,13 @@ OutOfRange n = latest < due n.time n.timeout
 
 -- ---- starts
 -- a node not held while eight are
-abbrev pub FullAs : Found → SdoClientManager → Type 0
-FullAs (Found.At k) m = ⊥
-FullAs Found.Absent m = length (live m) ≡ 8
+abbrev pub FullAs : Option ℕ → SdoClientManager → Type 0
+FullAs (Some k) m = ⊥
+FullAs None m = length (live m) ≡ 8
 
 -- on a connection neither Idle nor Closed
-abbrev pub BusyAs : Found → SdoClientManager → Type 0
-BusyAs (Found.At k) m = is_idle (held_at m k).state ≡ false
-BusyAs Found.Absent m = ⊥
+abbrev pub BusyAs : Option ℕ → SdoClientManager → Type 0
+BusyAs found m = IsSomeAnd found (λ (k : ℕ). is_idle (held_at m k).state ≡ false)
 
 -- DCF under 4 bytes
 abbrev pub Short : Job → Type 0
@@ -79,13 +76,13 @@ pub data Does : Type 0 where
   sets : Does
   stops : Does
 
-abbrev pub ask_reads : PendingRead → Does
-ask_reads (PendingRead.Read index sub) = sets
-ask_reads PendingRead.NoRead = passes
+abbrev pub ask_reads : Option ReadByIndexRequest → Does
+ask_reads (Some q) = sets
+ask_reads None = passes
 
-abbrev pub ask_loaded : LoadedTransfer → Does → Does
-ask_loaded (LoadedTransfer.Loaded t) other = sets
-ask_loaded LoadedTransfer.Unloaded other = other
+abbrev pub ask_loaded : Option Transfer → Does → Does
+ask_loaded (Some t) other = sets
+ask_loaded None other = other
 
 abbrev pub ask_state : SdoClientConnectionState → SdoClientConnection → Does
 ask_state SdoClientConnectionState.Idle c = passes
@@ -96,16 +93,16 @@ ask_state SdoClientConnectionState.UploadInProgress c = sets
 ask_state SdoClientConnectionState.DownloadInProgress c = ask_loaded c.job.loaded passes
 ask_state SdoClientConnectionState.Closed c = passes
 
-abbrev pub ask_free : Outstanding → SdoClientConnection → Does
-ask_free (Outstanding.Waits o) c = passes
-ask_free Outstanding.Nothing c = ask_state c.state c
+abbrev pub ask_free : Option Outgoing → SdoClientConnection → Does
+ask_free (Some o) c = passes
+ask_free None c = ask_state c.state c
 
 abbrev pub ask_does : Now → SdoClientConnection → Does
 ask_does n c = ask_free c.waiting.last_sent_command c
 
-abbrev pub tick_due : Deadline → Now → SdoClientConnection → Does
-tick_due Deadline.Never n c = passes
-tick_due (Deadline.At d) n c = pick (ltb n.time d) passes (pick (eqb c.waiting.retries_left 0) stops sets)
+abbrev pub tick_due : Option ℕ → Now → SdoClientConnection → Does
+tick_due None n c = passes
+tick_due (Some d) n c = pick (ltb n.time d) passes (pick (eqb c.waiting.retries_left 0) stops sets)
 
 abbrev pub tick_does : Now → SdoClientConnection → Does
 tick_does n c = tick_due c.waiting.deadline n c
@@ -148,18 +145,18 @@ Past SdoClientConnectionState.DownloadInProgress kind uploaded n = ⊥
 Past SdoClientConnectionState.Closed kind uploaded n = ⊥
 
 -- accepted: the command outstanding is answered, by the successor of the number last received, and with no abort mark
-abbrev pub Accepted : Outstanding → SdoClientConnection → SequenceLayerHeader → SdoCommand → Type 0
-Accepted Outstanding.Nothing c seq cmd = ⊥
-Accepted (Outstanding.Waits o) c seq cmd =
-    (seq.receive_sequence_number ≡ o.send)
+abbrev pub Accepted : Option Outgoing → SdoClientConnection → SequenceLayerHeader → SdoCommand → Type 0
+Accepted outstanding c seq cmd =
+    IsSomeAnd outstanding (λ (o : Outgoing). seq.receive_sequence_number ≡ o.send)
     × (seq.send_sequence_number ≡ (c.last_received_sequence_number + 1) % 64)
     × (cmd.header.is_aborted ≡ false)
 
-abbrev pub OverflowsAs : Found → SdoClientManager → SequenceLayerHeader → SdoCommand → Bytes → Type 0
-OverflowsAs Found.Absent m seq cmd payload = ⊥
-OverflowsAs (Found.At k) m seq cmd payload =
+abbrev pub OverflowsAs : Option ℕ → SdoClientManager → SequenceLayerHeader → SdoCommand → Bytes → Type 0
+OverflowsAs found m seq cmd payload =
+    IsSomeAnd found
+    (λ (k : ℕ).
     Accepted (held_at m k).waiting.last_sent_command (held_at m k) seq cmd
-    × Past (held_at m k).state cmd.header.segmentation (held_at m k).job.uploaded (length payload)
+    × Past (held_at m k).state cmd.header.segmentation (held_at m k).job.uploaded (length payload))
 
 abbrev pub reply_checks : SdoClientManager → Bytes → ℕ → SequenceLayerHeader → SdoCommand → Bytes → List (Check Refusal)
 reply_checks m store node seq cmd payload =

@@ -1,15 +1,15 @@
 -- Both sides of each edge (document 01): the table of the cases marked P, P1 to P10, and the totals P1 to P6 in published mode (document 02,
 -- CR 2); and what the definitions make of each.
-use Rattle.std.specs.Prelude.{ℕ, List, [], ◌∷◌, eqb, length}
+use Rattle.std.specs.Prelude.{ℕ, List, [], ◌∷◌, eqb, length, Some, None, Result, Ok}
+use Rattle.codec.specs.declared.refusal.Refusal.{Refusal}
+use Rattle.codec.specs.declared.sequence.SequenceLayerHeader.{SequenceLayerHeader}
 use Rattle.laws.specs.Pick.{pick}
 use Rattle.codec.specs.Bytes.{Bytes}
 use Rattle.codec.specs.Dcf.{count_of, readable_entries}
 use Rattle.codec.specs.Sequence.{sequence_read}
-use Rattle.codec.specs.declared.command.DataSize.{DataSize}
 use Rattle.codec.specs.declared.command.Segmentation.{Segmentation}
 use Rattle.codec.specs.declared.sequence.ReceiveConnState.{ReceiveConnState}
 use Rattle.codec.specs.declared.sequence.SendConnState.{SendConnState}
-use Rattle.codec.specs.declared.sequence.SequenceRead.{SequenceRead}
 use Rattle.con_rec.specs.PartsOf.{Part, parts_of}
 use Rattle.con_rec.specs.declared.Mode.{Mode}
 
@@ -25,14 +25,14 @@ ending_of b = pick (eqb (length (readable_entries b)) (count_of b)) complete cut
 pub data Edge : Type 0 where
   total : Mode → ℕ → List Part → Edge
   dcf : Bytes → List Bytes → Ending → Edge
-  sequence : Bytes → SequenceRead → Edge
+  sequence : Bytes → Result SequenceLayerHeader Refusal → Edge
 
 -- a part with no data size, and one with it
 abbrev pub part : Segmentation → ℕ → Part
-part kind length = record { kind = kind; length = length; size = DataSize.Absent }
+part kind length = record { kind = kind; length = length; size = None }
 
 abbrev pub initiate : ℕ → ℕ → Part
-initiate length size = record { kind = Segmentation.Initiate; length = length; size = DataSize.Present size }
+initiate length size = record { kind = Segmentation.Initiate; length = length; size = Some size }
 
 abbrev pub p7 : Bytes
 p7 =
@@ -66,7 +66,7 @@ table =
     ∷ dcf p8 (first ∷ []) cut
     ∷ dcf (0x00 ∷ 0x00 ∷ 0x00 ∷ 0x00 ∷ []) [] complete
     ∷ sequence (0xFE ∷ 0x00 ∷ 0x00 ∷ 0x00 ∷ [])
-    (SequenceRead.Header
+    (Ok
     (record {
       receive_sequence_number = 63;
       receive_con = ReceiveConnState.ConnectionValid;

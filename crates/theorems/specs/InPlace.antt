@@ -1,17 +1,17 @@
 -- A loop that keeps a manager these calls made does most changes in place, as the replay's does: it puts the connection at its place of the array and
 -- the number in its own, and nothing else of the manager moves.
-use Rattle.std.specs.Prelude.{ℕ, ◌≡◌, List, ltb, set}
+use Rattle.std.specs.Prelude.{All, ℕ, ◌≡◌, List, ltb, set, None}
 use Rattle.laws.specs.Pick.{pick}
 use Rattle.codec.specs.Bytes.{Bytes}
 use Rattle.man_table.specs.Sweep.{running}
 use Rattle.man_table.specs.Table.{live, table_of}
 use Rattle.manager.specs.Change.{answering, change_done, number_after}
-use Rattle.theorems.specs.Sound.{All, Sound}
-use Rattle.theorems.specs.Types.{Change, Entry, Outcome, SdoClientConnection, SdoClientManager}
+use Rattle.theorems.specs.Sound.{Sound}
+use Rattle.theorems.specs.Types.{Change, Entry, SdoClientConnection, SdoClientManager}
 
 -- a manager as its calls leave it: those held come first, blank after them, and none of them has ended
 abbrev pub Runs : SdoClientConnection → Type 0
-Runs c = c.outcome ≡ Outcome.Running
+Runs c = c.outcome ≡ None
 
 pub record Neat (m : SdoClientManager) : Type 0 where
   pub is : m ≡ table_of (live m) m.next_transaction_id

@@ -1,6 +1,6 @@
 -- A start or reply for one node leaves every other node's connection and bytes unchanged (document 01, "The manager"): the connection as it
 -- is found in the table, and the bytes of its room in the store.
-use Rattle.std.specs.Prelude.{ℕ, ◌≡◌, List, [], ◌∷◌, eqb}
+use Rattle.std.specs.Prelude.{ℕ, ◌≡◌, List, [], ◌∷◌, eqb, Option, Some, None, IsSomeAnd}
 use Rattle.laws.specs.Pick.{pick}
 use Rattle.codec.specs.Bytes.{Bytes}
 use Rattle.manager.specs.Calls.{Call, replies, starts, turns}
@@ -9,21 +9,19 @@ use Rattle.theorems.specs.Run.{Event, Host, next, reached}
 use Rattle.theorems.specs.Types.{SdoClientConnection, SdoClientManager}
 
 -- what a manager holds for a node: nothing, or a connection with the bytes of its room
-pub data Holding : Type 0 where
-  nothing : Holding
-  connection : SdoClientConnection → Bytes → Holding
+abbrev pub Holding : Type 0
+Holding = Option (SdoClientConnection × Bytes)
 
 abbrev pub holding_in : ℕ → List SdoClientConnection → Bytes → Holding
-holding_in node [] store = nothing
-holding_in node (c ∷ l) store = pick (eqb c.target_node_id node) (connection c (room_in store c)) (holding_in node l store)
+holding_in node [] store = None
+holding_in node (c ∷ l) store = pick (eqb c.target_node_id node) (Some (c, room_in store c)) (holding_in node l store)
 
 abbrev pub holding : SdoClientManager → Bytes → ℕ → Holding
 holding m store node = holding_in node (live m) store
 
 -- something is held, and this is so of it
 abbrev pub Held : Holding → (SdoClientConnection → Bytes → Type 0) → Type 0
-Held nothing is = ⊥
-Held (connection c room) is = is c room
+Held h is = IsSomeAnd h (λ (p : SdoClientConnection × Bytes). is p.0 p.1)
 
 -- a start or a reply for another node
 abbrev pub ForAnother : ℕ → Call → Type 0

@@ -1,13 +1,11 @@
 -- One call reports up to eight ends, ascending (document 01, "The manager").
-use Rattle.std.specs.Prelude.{◌≤◌, ◌<◌, List, [], ◌∷◌, length}
+use Rattle.std.specs.Prelude.{AllPairs, ◌≤◌, ◌<◌, List, length}
 use Rattle.codec.specs.Bytes.{Bytes}
 use Rattle.theorems.specs.Run.{Event, made, reached, reported}
-use Rattle.theorems.specs.Sound.{All}
 use Rattle.theorems.specs.Types.{End}
 
 abbrev pub Ascending : List End → Type 0
-Ascending [] = Unit {0}
-Ascending (e ∷ l) = All (λ (d : End). e.node < d.node) l × Ascending l
+Ascending l = AllPairs (λ (d e : End). d.node < e.node) l
 
 unfoldable pub Reports : Type 0
 Reports =

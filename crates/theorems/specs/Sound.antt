@@ -1,15 +1,11 @@
 -- What is true of every manager that the calls made (document 01, "The manager"): at most eight connections, strictly ascending by node,
 -- each in a room of its own; none that ended; and each consistent with its room.
-use Rattle.std.specs.Prelude.{ℕ, ◌%◌, ◌≤◌, ◌<◌, ◌≡◌, false, List, [], ◌∷◌, length}
+use Rattle.std.specs.Prelude.{All, AllPairs, ℕ, ◌%◌, ◌≤◌, ◌<◌, ◌≡◌, false, List, length, None}
 use Rattle.codec.specs.Bytes.{Bytes}
 use Rattle.con_reply.specs.Consistent.{Consistent, is_closed}
 use Rattle.man_table.specs.Table.{last_room, live, room_in, room_size, table_of}
 use Rattle.theorems.specs.Run.{Event, Host, reached}
-use Rattle.theorems.specs.Types.{Outcome, SdoClientConnection, SdoClientManager}
-
-abbrev pub All : {A : Type 0} → (A → Type 0) → List A → Type 0
-All P [] = Unit {0}
-All P (x ∷ l) = P x × All P l
+use Rattle.theorems.specs.Types.{SdoClientConnection, SdoClientManager}
 
 -- where a room may start: at a multiple of 4,096 below 32,768
 abbrev pub Slotted : ℕ → Type 0
@@ -20,13 +16,12 @@ abbrev pub Before : SdoClientConnection → SdoClientConnection → Type 0
 Before c d = (c.target_node_id < d.target_node_id) × (c.room ≡ d.room → ⊥)
 
 abbrev pub Ordered : List SdoClientConnection → Type 0
-Ordered [] = Unit {0}
-Ordered (c ∷ l) = All (Before c) l × Ordered l
+Ordered l = AllPairs Before l
 
 -- a connection that is held
 pub record Sane (store : Bytes) (c : SdoClientConnection) : Type 0 where
   pub slotted : Slotted c.room
-  pub runs : c.outcome ≡ Outcome.Running
+  pub runs : c.outcome ≡ None
   pub opened : is_closed c.state ≡ false
   pub consistent : Consistent c (room_in store c)
 

@@ -1,7 +1,7 @@
 -- What the calls tell of one node's job since its start: what ask gave the node, which command waits for its reply, how many entries were wholly sent
 -- and then answered, and what a read brought. It is told by the calls, their answers, the output and the payloads of replies alone, and by no field
 -- of a connection.
-use Rattle.std.specs.Prelude.{ℕ, ◌+◌, ◌%◌, Bool, true, false, List, [], ◌∷◌, ◌++◌, eqb, length, take}
+use Rattle.std.specs.Prelude.{ℕ, ◌+◌, ◌%◌, Bool, true, false, List, [], ◌∷◌, ◌++◌, eqb, length, take, Option, Some, None, find}
 use Rattle.laws.specs.Pick.{pick}
 use Rattle.codec.specs.Bytes.{Bytes}
 use Rattle.con_reply.specs.Delivery.{is_opening, pieces}
@@ -9,34 +9,23 @@ use Rattle.con_reply.specs.Sent.{Sent}
 use Rattle.con_reply.specs.Uploaded.{joined}
 use Rattle.manager.specs.Calls.{After, Call, replies, starts, turns}
 use Rattle.theorems.specs.Run.{Event, Host, made, next, reported}
-use Rattle.theorems.specs.Types.{
-  Answer,
-  End,
-  EndFound,
-  Outcome,
-  SdoCommand,
-  Segmentation,
-  SequenceLayerHeader,
-  Turn,
-}
+use Rattle.theorems.specs.Types.{Answer, End, Reason, SdoCommand, Segmentation, SequenceLayerHeader, Turn}
 
 -- ---- what a call gives a node: a command, its payload from the start of the output, as long as the segment size says
-pub data Gave : Type 0 where
-  none : Gave
-  command : SequenceLayerHeader → SdoCommand → Bytes → Gave
+abbrev pub Gave : Type 0
+Gave = Option (SequenceLayerHeader × SdoCommand × Bytes)
 
 abbrev pub gave_to : ℕ → Bytes → Answer → Gave
-gave_to node output Answer.Nothing = none
+gave_to node output Answer.Nothing = None
 gave_to node output (Answer.Sent s) =
-    pick (eqb s.node node) (command s.sequence s.command (take s.command.header.segment_size output)) none
-gave_to node output (Answer.Value part) = none
-gave_to node output (Answer.Refused r) = none
+    pick (eqb s.node node) (Some (s.sequence, s.command, take s.command.header.segment_size output)) None
+gave_to node output (Answer.Value part) = None
+gave_to node output (Answer.Refused r) = None
 
 -- ---- the story of a job
 -- the command that waits for its reply
-pub data Awaits : Type 0 where
-  free : Awaits
-  reply : SequenceLayerHeader → SdoCommand → Awaits
+abbrev pub Awaits : Type 0
+Awaits = Option (SequenceLayerHeader × SdoCommand)
 
 pub record Story : Type 0 where
   pub asks : List Sent
@@ -46,17 +35,17 @@ pub record Story : Type 0 where
 
 -- at its start
 abbrev pub untold : Story
-untold = record { asks = []; awaits = free; delivered = 0; brought = [] }
+untold = record { asks = []; awaits = None; delivered = 0; brought = [] }
 
 -- ask gave a command
 abbrev pub asked : Story → Gave → Story
-asked s none = s
-asked s (command seq cmd payload) =
+asked s None = s
+asked s (Some (seq, cmd, payload)) =
     record {
       asks =
           s.asks
           ++ (record { id = cmd.header.command_id; kind = cmd.header.segmentation; payload = payload } ∷ []);
-      awaits = reply seq cmd;
+      awaits = Some (seq, cmd);
       delivered = s.delivered;
       brought = s.brought;
     }
@@ -70,7 +59,7 @@ wholly (e ∷ es) (p ∷ q ∷ ps) = wholly es (q ∷ ps)
 
 -- answered: no command waits any more
 abbrev pub answered : Story → Story
-answered s = record { asks = s.asks; awaits = free; delivered = s.delivered; brought = s.brought }
+answered s = record { asks = s.asks; awaits = None; delivered = s.delivered; brought = s.brought }
 
 -- a refused reply has not happened
 abbrev pub unless_refused : Answer → Story → Story → Story
@@ -82,17 +71,16 @@ unless_refused (Answer.Refused r) before after = before
 -- ---- the log of a job: its story, how it stands, and the delivered figure of its end
 pub record Log : Type 0 where
   pub story : Story
-  pub outcome : Outcome
+  pub outcome : Option Reason
   pub figure : ℕ
 
 -- the end that a call reports of the node; the log closes with it, and else goes on
-abbrev pub end_for : ℕ → List End → EndFound
-end_for node [] = EndFound.Running
-end_for node (e ∷ es) = pick (eqb e.node node) (EndFound.End e) (end_for node es)
+abbrev pub end_for : ℕ → List End → Option End
+end_for node es = find (λ (e : End). eqb e.node node) es
 
-abbrev pub unless_ended : EndFound → Story → Log → Log
-unless_ended EndFound.Running s on = on
-unless_ended (EndFound.End e) s on = record { story = s; outcome = Outcome.Ended e.reason; figure = e.delivered }
+abbrev pub unless_ended : Option End → Story → Log → Log
+unless_ended None s on = on
+unless_ended (Some e) s on = record { story = s; outcome = Some e.reason; figure = e.delivered }
 
 module _ (entries : List Bytes) where
   -- a reply was accepted: the opening's brings nothing
@@ -101,7 +89,7 @@ module _ (entries : List Bytes) where
   accepted false s kind payload =
       record {
         asks = s.asks;
-        awaits = free;
+        awaits = None;
         delivered = pick (wholly entries (pieces s.asks)) (s.delivered + 1) s.delivered;
         brought = joined kind s.brought payload;
       }
@@ -109,8 +97,8 @@ module _ (entries : List Bytes) where
   -- A reply whose receive number is not that of the command outstanding is ignored. One is accepted whose send number is the successor, modulo 64, of
   -- the number that the command acknowledged, and which has no abort mark.
   abbrev pub heard_by : Awaits → Story → SequenceLayerHeader → SdoCommand → Bytes → Story
-  heard_by free s seq cmd payload = s
-  heard_by (reply h c) s seq cmd payload =
+  heard_by None s seq cmd payload = s
+  heard_by (Some (h, c)) s seq cmd payload =
       pick (eqb seq.receive_sequence_number h.send_sequence_number)
       (pick (eqb seq.send_sequence_number ((h.receive_sequence_number + 1) % 64))
       (pick cmd.header.is_aborted (answered s)
@@ -133,7 +121,7 @@ module _ (entries : List Bytes) where
     told s x a = told_by s x a.done.answer (gave_to node a.output a.done.answer)
 
     abbrev pub follow : Story → Host → List Event → Log
-    follow s h [] = record { story = s; outcome = Outcome.Running; figure = 0 }
+    follow s h [] = record { story = s; outcome = None; figure = 0 }
     follow s h (x ∷ xs) =
         let a : After = made h x in
         let t : Story = told s x.call a in

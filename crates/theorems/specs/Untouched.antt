@@ -1,21 +1,21 @@
 -- Every refusal leaves state, store and output untouched, but 4 and 5 take a transaction number, and 5 for a new node enters an Idle
 -- connection (document 01, "Numbers that refuse").
-use Rattle.std.specs.Prelude.{ℕ, ◌≡◌, []}
+use Rattle.std.specs.Prelude.{ℕ, ◌≡◌, [], Option, Some, None}
 use Rattle.laws.specs.Pick.{pick}
 use Rattle.codec.specs.Bytes.{Bytes}
 use Rattle.con_rec.specs.Record.{new_connection}
 use Rattle.manager.specs.Calls.{After, Call, called, number_of, reads, replies, starts, takes_number, turns}
 use Rattle.man_table.specs.Table.{find_in, free_room, insert_in, live, table_of}
 use Rattle.theorems.specs.Run.{reported}
-use Rattle.theorems.specs.Types.{Answer, Found, Mode, Now, Refusal, SdoClientManager}
+use Rattle.theorems.specs.Types.{Answer, Mode, Now, Refusal, SdoClientManager}
 
 -- the next number taken; for a node that is not held, with an Idle connection entered
 abbrev pub stepped : SdoClientManager → SdoClientManager
 stepped m = record { connections = m.connections; count = m.count; next_transaction_id = number_of m }
 
-abbrev pub numbered : Found → SdoClientManager → ℕ → SdoClientManager
-numbered (Found.At k) m node = stepped m
-numbered Found.Absent m node = table_of (insert_in (new_connection node (free_room (live m))) (live m)) (number_of m)
+abbrev pub numbered : Option ℕ → SdoClientManager → ℕ → SdoClientManager
+numbered (Some k) m node = stepped m
+numbered None m node = table_of (insert_in (new_connection node (free_room (live m))) (live m)) (number_of m)
 
 -- the manager that a refusal leaves
 abbrev pub refused_by : SdoClientManager → Call → Refusal → SdoClientManager

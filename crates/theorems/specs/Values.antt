@@ -1,7 +1,7 @@
 -- Values back to the bench (document 02, CR 1). Of any calls, where a read ends Complete, the bytes that are handed out are the payloads that its accepted
 -- replies brought, joined as document 01 says (con_reply's `joined`): the one Expedited payload, or those of Segment and Complete since the last Initiate.
 -- Every other call answers no value. `Values` and `ValuesAlone` are told by calls, answers, payloads and the host's store, and by no field of a connection.
-use Rattle.std.specs.Prelude.{ℕ, ◌+◌, ◌≤◌, ◌≡◌, List, []}
+use Rattle.std.specs.Prelude.{ℕ, ◌+◌, ◌≤◌, ◌≡◌, List, [], Option, Some, None, IsSomeAnd}
 use Rattle.laws.specs.Pick.{pick}
 use Rattle.codec.specs.Bytes.{Bytes}
 use Rattle.manager.specs.Calls.{After, Call, Job, loads, reads, replies, starts, turns, writes}
@@ -10,28 +10,24 @@ use Rattle.man_value.specs.Value.{is_complete, object_of, value_in}
 use Rattle.theorems.specs.Figures.{entries_in}
 use Rattle.theorems.specs.Run.{Event, Host, made, next, reached, reported, run, starting}
 use Rattle.theorems.specs.Story.{Log, end_for, follow, told, untold}
-use Rattle.theorems.specs.Types.{Answer, End, EndFound, Mode, Now, Outcome, PendingRead, Reason, StorePart}
+use Rattle.theorems.specs.Types.{Answer, End, Mode, Now, Reason, StorePart}
 
 -- what the thin call hands out of a store for an answer: bytes for a value, for any other answer there is nothing to hand out
-pub data Handed : Type 0 where
-  nothing : Handed
-  bytes : Bytes → Handed
-
-abbrev pub handed : Answer → Bytes → Handed
-handed Answer.Nothing store = nothing
-handed (Answer.Sent s) store = nothing
-handed (Answer.Value part) store = bytes (value_in store part)
-handed (Answer.Refused r) store = nothing
+abbrev pub handed : Answer → Bytes → Option Bytes
+handed Answer.Nothing store = None
+handed (Answer.Sent s) store = None
+handed (Answer.Value part) store = Some (value_in store part)
+handed (Answer.Refused r) store = None
 
 -- what is due for a job by the end that is reported of it: for a read that ended Complete, what it brought
-abbrev pub due_by : Reason → Bytes → Handed
-due_by why brought = pick (is_complete why) (bytes brought) nothing
+abbrev pub due_by : Reason → Bytes → Option Bytes
+due_by why brought = pick (is_complete why) (Some brought) None
 
-abbrev pub due_for : Job → EndFound → Bytes → Handed
-due_for (writes mode index sub content) e brought = nothing
-due_for (reads mode index sub) EndFound.Running brought = nothing
-due_for (reads mode index sub) (EndFound.End e) brought = due_by e.reason brought
-due_for (loads mode dcf) e brought = nothing
+abbrev pub due_for : Job → Option End → Bytes → Option Bytes
+due_for (writes mode index sub content) e brought = None
+due_for (reads mode index sub) None brought = None
+due_for (reads mode index sub) (Some e) brought = due_by e.reason brought
+due_for (loads mode dcf) e brought = None
 
 -- any call but a reply from another node, which may have its own value
 abbrev pub Concerns : ℕ → Call → Type 0
@@ -48,7 +44,7 @@ Values =
     let log : Log = follow (entries_in job) node untold (next host start) later in
     let before : Host = run (next host start) later in
     let a : After = made before x in
-    (made host start).done.answer ≡ Answer.Nothing → log.outcome ≡ Outcome.Running → Concerns node x.call
+    (made host start).done.answer ≡ Answer.Nothing → log.outcome ≡ None → Concerns node x.call
     → handed a.done.answer (next before x).store
     ≡ due_for job (end_for node (reported a)) (told (entries_in job) node log.story x.call a).brought
 
@@ -59,13 +55,12 @@ ObjectNamed =
     → let host : Host = reached lent earlier in
     let start : Event = starting node (reads mode index sub) now in
     let log : Log = follow [] node untold (next host start) later in
-    (made host start).done.answer ≡ Answer.Nothing → log.outcome ≡ Outcome.Running
-    → object_of (run (next host start) later).manager node ≡ PendingRead.Read index sub
+    (made host start).done.answer ≡ Answer.Nothing → log.outcome ≡ None
+    → object_of (run (next host start) later).manager node ≡ Some (record { index = index; sub_index = sub })
 
 -- the end that is reported is Complete
-abbrev pub IsComplete : EndFound → Type 0
-IsComplete EndFound.Running = ⊥
-IsComplete (EndFound.End e) = e.reason ≡ Reason.Complete
+abbrev pub IsComplete : Option End → Type 0
+IsComplete o = IsSomeAnd o (λ (e : End). e.reason ≡ Reason.Complete)
 
 abbrev pub EndsComplete : Call → List End → Type 0
 EndsComplete (starts k job n) ends = ⊥
@@ -77,7 +72,7 @@ unfoldable pub ValuesAlone : Type 0
 ValuesAlone =
     (lent : Bytes) (earlier : List Event) (x : Event) (store value : Bytes)
     → let a : After = made (reached lent earlier) x in
-    handed a.done.answer store ≡ bytes value → EndsComplete x.call (reported a)
+    handed a.done.answer store ≡ Some value → EndsComplete x.call (reported a)
 
 -- of any calls, a part that is answered lies within the store, and has no more bytes than a room
 unfoldable pub ValuesWithin : Type 0

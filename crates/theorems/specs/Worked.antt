@@ -1,10 +1,8 @@
 -- Jobs run by the calls themselves, from a new manager with a store of zeros: each ask is answered by the right reply. They show that the
 -- theorems about taken starts and reported ends speak of something.
-use Rattle.std.specs.Prelude.{ℕ, zero, suc, ◌*◌, ◌%◌, ◌≡◌, true, false, List, [], ◌∷◌, length, replicate}
-use Rattle.codec.specs.declared.command.DataSize.{DataSize}
+use Rattle.std.specs.Prelude.{ℕ, zero, suc, ◌*◌, ◌%◌, ◌≡◌, true, false, List, [], ◌∷◌, length, replicate, Option, None, map}
 use Rattle.codec.specs.declared.sequence.ReceiveConnState.{ReceiveConnState}
 use Rattle.codec.specs.declared.sequence.SendConnState.{SendConnState}
-use Rattle.con_rec.specs.declared.Parameter.{Parameter}
 use Rattle.codec.specs.Bytes.{Bytes}
 use Rattle.con_reply.specs.Delivery.{pieces}
 use Rattle.con_reply.specs.Sent.{Sent}
@@ -13,25 +11,15 @@ use Rattle.man_table.specs.Table.{store_size}
 use Rattle.theorems.specs.Figures.{entries_in}
 use Rattle.theorems.specs.Run.{Event, Host, another, made, next, own, reached, starting}
 use Rattle.theorems.specs.Story.{Log, follow, untold}
-use Rattle.theorems.specs.Values.{Handed, handed}
-use Rattle.theorems.specs.Types.{
-  Answer,
-  CommandId,
-  Mode,
-  Now,
-  Outcome,
-  SdoCommand,
-  Segmentation,
-  SequenceLayerHeader,
-  Turn,
-}
+use Rattle.theorems.specs.Values.{handed}
+use Rattle.theorems.specs.Types.{Answer, CommandId, Mode, Now, Reason, SdoCommand, Segmentation, SequenceLayerHeader, Turn}
 
 abbrev pub early : Now
-early = record { time = 0; timeout = Parameter.Absent; retries = Parameter.Absent }
+early = record { time = 0; timeout = None; retries = None }
 
 -- so many seconds later; 15 is where the deadline is
 abbrev pub seconds : ℕ → Now
-seconds n = record { time = n * 1000000; timeout = Parameter.Absent; retries = Parameter.Absent }
+seconds n = record { time = n * 1000000; timeout = None; retries = None }
 
 abbrev pub late : Now
 late = seconds 15
@@ -62,7 +50,7 @@ nil =
             command_id = CommandId.Nil;
             segment_size = 0;
           };
-      data_size = DataSize.Absent;
+      data_size = None;
     }
 
 abbrev pub rounds : ℕ → ℕ → List Event
@@ -77,7 +65,7 @@ pub record Out : Type 0 where
   pub answer : Answer
   pub got : List Bytes
   pub brought : Bytes
-  pub outcome : Outcome
+  pub outcome : Option Reason
   pub figure : ℕ
 
 abbrev pub ran : List Event → Job → List Event → Out
@@ -134,7 +122,7 @@ kind k =
             command_id = CommandId.ReadByIndex;
             segment_size = 0;
           };
-      data_size = DataSize.Absent;
+      data_size = None;
     }
 
 -- an upload of five bytes in segments; what comes with the Initiate is dropped
@@ -152,8 +140,7 @@ uploaded =
 
 -- what ask gave the node, by kind and length
 abbrev pub kinds_of : List Sent → List (Segmentation × ℕ)
-kinds_of [] = []
-kinds_of (s ∷ l) = (s.kind, length s.payload) ∷ kinds_of l
+kinds_of l = map (λ (s : Sent). (s.kind, length s.payload)) l
 
 abbrev pub sent_kinds : ℕ → List Event → Job → List Event → List (Segmentation × ℕ)
 sent_kinds node earlier job later =
@@ -175,7 +162,7 @@ by_turns (suc more) k =
     ∷ by_turns more (suc k)
 
 -- what is handed out after each call
-abbrev pub handed_by : Host → List Event → List Handed
+abbrev pub handed_by : Host → List Event → List (Option Bytes)
 handed_by h [] = []
 handed_by h (x ∷ xs) = handed (made h x).done.answer (next h x).store ∷ handed_by (next h x) xs
 

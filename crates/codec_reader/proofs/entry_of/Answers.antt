@@ -1,15 +1,10 @@
+-- `codec_reader::entry_of` meets its contract: each step leads to the next entry, and where none is found more steps lead nowhere else.
 use Rattle.std.proofs.Common.{arith, rules}
-use Rattle.codec_reader.proofs.Places.{begins, goes_on, reached, stays}
+use Rattle.codec_reader.proofs.Places.{goes_on, stays}
 use Rattle.codec_reader.proofs.entry_of.Goals as goal
 
-pub loop-more-init : goal.loop-more-init
-loop-more-init c = begins _ _ _ c.first_place-first.ensures c.entry_at-step.ensures
-
 pub returns-in_default : goal.returns-in_default
-returns-in_default c = stays _ _ _ _ c.loop-more.invariant (λ d. search rules)
+returns-in_default c = stays _ c.loop-i._i c.args.n _ c.loop-i.invariant (λ d. search rules) (omega arith)
 
-pub loop-more-preserved : goal.loop-more-preserved
-loop-more-preserved c = goes_on _ _ _ _ _ c.loop-more.invariant (omega arith) c.entry_at-step-in-loop-more.ensures
-
-pub returns : goal.returns
-returns c = reached _ _ _ _ c.loop-more.invariant (omega arith)
+pub loop-i-preserved : goal.loop-i-preserved
+loop-i-preserved c = goes_on _ c.loop-i._i _ _ c.loop-i.invariant c.entry_at-step-in-loop-i.ensures

@@ -1,9 +1,7 @@
--- The loop's invariant: `step` is from a place with `more` steps to go.
-use Rattle.codec_reader.proofs.Places.{Reading}
+-- The loop's invariant: `step` is that to the entry that the loop has come to.
+use Rattle.std.proofs.Common.{◌≡◌}
+use Rattle.codec_reader.specs.Place.{entry_of}
 use Rattle.codec_reader.proofs.entry_of.Given as goal
 
-abbrev pub invariant-loop-more : goal.invariant-loop-more
-invariant-loop-more l = Reading l.dcf l.fn.n l.step l.more
-
-abbrev pub decreases-loop-more : goal.decreases-loop-more
-decreases-loop-more l = l.more
+abbrev pub invariant-loop-i : goal.invariant-loop-i
+invariant-loop-i l = l.step ≡ entry_of l.dcf l._i

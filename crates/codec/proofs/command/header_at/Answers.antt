@@ -2,4 +2,4 @@
 use Rattle.codec.proofs.command.header_at.Goals as goal
 
 pub returns : goal.returns
-returns c = rw (c.segmentation_of.ensures, c.le16_at.ensures)
+returns c = rw (c.from.ensures, c.le16_at.ensures)

@@ -9,9 +9,6 @@ returns-then-left-eq0 c = dcf_end _ _ c.if-left-eq0.true
 pub returns-then-b-at : goal.returns-then-b-at
 returns-then-b-at c = dcf_no_head _ _ c.if-left-eq0.false (omega arith)
 
-pub returns-then-b-at-lt7 : goal.returns-then-b-at-lt7
-returns-then-b-at-lt7 c = dcf_no_head _ _ c.if-left-eq0.false (omega arith)
-
 pub returns-then-b-start : goal.returns-then-b-start
 returns-then-b-start c =
     dcf_no_data _ _ _ c.le32_at-len.ensures c.if-left-eq0.false c.if-b-at-lt7.false c.if-b-start.true

@@ -7,8 +7,5 @@ use Rattle.codec.proofs.octets.put.Goals as goal
 pub returns-then-buffer-at : goal.returns-then-buffer-at
 returns-then-buffer-at c = value_buffer (put_refused _ _ _ (omega arith))
 
-pub returns-then-buffer-at-2 : goal.returns-then-buffer-at-2
-returns-then-buffer-at-2 c = value_buffer (put_refused _ _ _ (omega arith))
-
 pub returns : goal.returns
 returns c = value_buffer (put_done _ _ _ _ (omega arith) c.put_bytes.ensures)

@@ -1,22 +1,16 @@
--- `man_table::held::find` meets its contract.
-use mathlib.Core.Path.{refl}
-use native.Mathlib.Omega.{arith}
-use Rattle.man_table.proofs.ScanLoops.{absent, found, scan_none, seeking_more}
-use borrow.Author.Rules.{rules}
+-- `man_table::held::find` meets its contract: the first whose node it is.
+use Rattle.std.proofs.Common.{◌∙◌, refl, nat_eq, rules}
+use borrow.Author.Tests.{tests}
+use Rattle.std.proofs.lemmas.Iterator.{YieldsList-from_slice}
+use Rattle.std.proofs.lemmas.Iterator.Search.{position_from_yields_List}
+use Rattle.man_table.specs.Table.{live, find_in}
+use Rattle.man_table.specs.Types.{SdoClientConnection}
+use Rattle.man_table.proofs.Searches.{first_place}
 use Rattle.man_table.proofs.held.find.Goals as goal
-
-pub loop-i-init : goal.loop-i-init
-loop-i-init c = search (rules, scan_none)
-
-pub returns-then-n-i : goal.returns-then-n-i
-returns-then-n-i c = search (rules, absent)
-
-pub returns-then-old-i : goal.returns-then-old-i
-returns-then-old-i c = search (rules, found)
-
-pub loop-i-preserved : goal.loop-i-preserved
-loop-i-preserved c = seeking_more _ _ _ _ _ _ (search rules) refl (search rules) c.if-old-i.false
 
 pub returns : goal.returns
 returns c =
-    let k = c.loop-i.invariant.most in absent _ _ _ _ c.lived-n.ensures c.loop-i.invariant (omega arith)
+    let a = c.args in
+    let p = λ (d : SdoClientConnection). nat_eq d.target_node_id a.node in
+    position_from_yields_List p _ _ _ c.position.ensures.ran (YieldsList-from_slice (live a.m) cc) (λ x b q k. search (rules, tests))
+    ∙ first_place p (find_in a.node) refl (λ d l. refl) (live a.m)

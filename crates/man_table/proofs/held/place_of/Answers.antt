@@ -1,22 +1,17 @@
--- `man_table::held::place_of` meets its contract.
-use mathlib.Core.Path.{refl}
-use native.Mathlib.Omega.{arith}
-use Rattle.man_table.proofs.ScanLoops.{after_all, before_larger, placing_more, scan_none}
-use borrow.Author.Rules.{rules}
+-- `man_table::held::place_of` meets its contract: before the first whose node is larger, or after all.
+use Rattle.std.proofs.Common.{◌∙◌, refl, nat_lt, rules}
+use borrow.Author.Tests.{tests}
+use Rattle.std.proofs.lemmas.Iterator.{YieldsList-from_slice}
+use Rattle.std.proofs.lemmas.Iterator.Search.{position_from_yields_List}
+use Rattle.man_table.specs.Table.{live, place_in}
+use Rattle.man_table.specs.Types.{SdoClientConnection}
+use Rattle.man_table.proofs.Searches.{before_first}
 use Rattle.man_table.proofs.held.place_of.Goals as goal
-
-pub loop-i-init : goal.loop-i-init
-loop-i-init c = search (rules, scan_none)
-
-pub returns-then-n-i : goal.returns-then-n-i
-returns-then-n-i c = search (rules, after_all)
-
-pub returns-then-node-old : goal.returns-then-node-old
-returns-then-node-old c = search (rules, before_larger)
-
-pub loop-i-preserved : goal.loop-i-preserved
-loop-i-preserved c = placing_more _ _ _ _ _ _ (search rules) refl (search rules) c.if-node-old.false
 
 pub returns : goal.returns
 returns c =
-    let k = c.loop-i.invariant.most in after_all _ _ _ _ c.lived-n.ensures c.loop-i.invariant (omega arith)
+    let a = c.args in
+    let p = λ (d : SdoClientConnection). nat_lt a.node d.target_node_id in
+    let first =
+    position_from_yields_List p _ _ _ c.position.ensures.ran (YieldsList-from_slice (live a.m) cc) (λ x b q k. search (rules, tests)) in
+    c.unwrap_or.ensures ∙ rw (first, c.held-held.ensures) (before_first p (place_in a.node) refl (λ d l. refl) (live a.m))

@@ -6,8 +6,8 @@ use Rattle.man_table.proofs.held.target_of.Goals as goal
 pub returns-then-lived-eq8 : goal.returns-then-lived-eq8
 returns-then-lived-eq8 c = search (rules, target_full)
 
-pub returns-in-At : goal.returns-in-At
-returns-in-At c = search (rules, target_held)
+pub returns-in-Some : goal.returns-in-Some
+returns-in-Some c = search (rules, target_held)
 
 pub returns-else-lived-eq8 : goal.returns-else-lived-eq8
 returns-else-lived-eq8 c = search (rules, target_new)

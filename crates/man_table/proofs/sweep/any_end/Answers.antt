@@ -1,21 +1,19 @@
--- `man_table::sweep::any_end` meets its contract.
-use native.Mathlib.Omega.{arith}
-use Rattle.man_table.proofs.ScanLoops.{ended, ending_more, none_ended, scan_none}
-use borrow.Author.Rules.{rules}
+-- `man_table::sweep::any_end` meets its contract: whether one has an end.
+use Rattle.std.proofs.Common.{◌∙◌, refl, rules}
+use borrow.Author.Tests.{tests}
+use Rattle.std.specs.Option.{is_some}
+use Rattle.std.proofs.lemmas.Iterator.{YieldsList-from_slice}
+use Rattle.std.proofs.lemmas.Iterator.Search.{any_from_yields_List}
+use Rattle.con_rec.specs.Record.{end_of}
+use Rattle.man_table.specs.Sweep.{any_end}
+use Rattle.man_table.specs.Table.{live}
+use Rattle.man_table.specs.Types.{SdoClientConnection}
+use Rattle.man_table.proofs.Searches.{one_passes, end_or}
 use Rattle.man_table.proofs.sweep.any_end.Goals as goal
-
-pub loop-i-init : goal.loop-i-init
-loop-i-init c = search (rules, scan_none)
-
-pub returns-then-n-i : goal.returns-then-n-i
-returns-then-n-i c = search (rules, none_ended)
-
-pub returns-in-End : goal.returns-in-End
-returns-in-End c = search (rules, ended)
-
-pub loop-i-preserved : goal.loop-i-preserved
-loop-i-preserved c = search (rules, ending_more)
 
 pub returns : goal.returns
 returns c =
-    let k = c.loop-i.invariant.most in none_ended _ _ _ c.lived-n.ensures c.loop-i.invariant (omega arith)
+    let a = c.args in
+    let p = λ (d : SdoClientConnection). is_some (end_of d) in
+    any_from_yields_List p _ _ _ c.any.ensures.ran (YieldsList-from_slice (live a.m) cc) (λ x b q k. search (rules, tests))
+    ∙ one_passes p any_end refl (λ d l. end_or (end_of d) (any_end l)) (live a.m)

@@ -1,19 +1,15 @@
 -- `man_table::sweep::swept` meets its contract.
-use native.Mathlib.Omega.{arith}
-use mathlib.Core.Path.{refl}
 use Rattle.man_table.specs.Sweep.{running}
-use Rattle.man_table.proofs.FillLoops.{adds, each_kept, fill_none, kept, skips, swept_all}
-use borrow.Author.Rules.{rules}
+use Rattle.man_table.proofs.FillLoops.{adds, each_kept, gone, kept, skips, stays}
 use Rattle.man_table.proofs.sweep.swept.Goals as goal
+use mathlib.Core.Path.{refl}
 
-pub loop-i-init : goal.loop-i-init
-loop-i-init c = fill_none _ _ _ _ _ (omega arith) (omega arith) refl (rw c.blank-b.ensures)
+pub loop-c-preserved-then-is_some : goal.loop-c-preserved-then-is_some
+loop-c-preserved-then-is_some c =
+    skips running kept each_kept _ _ _ _ _ _ c.loop-c.invariant c.loop-c-test.true _ _ c.end.ensures refl
+    (gone _ _ _ c.is_some.ensures c.if-is_some.true)
 
-pub loop-i-preserved-in-End : goal.loop-i-preserved-in-End
-loop-i-preserved-in-End c = search (rules, skips running kept each_kept)
-
-pub loop-i-preserved : goal.loop-i-preserved
-loop-i-preserved c = search (rules, adds running kept each_kept)
-
-pub returns : goal.returns
-returns c = search (rules, swept_all)
+pub loop-c-preserved : goal.loop-c-preserved
+loop-c-preserved c =
+    adds running kept each_kept _ _ _ _ _ _ c.loop-c.invariant c.loop-c-test.true _ _ c.end.ensures refl _
+    (stays _ _ _ c.is_some.ensures c.if-is_some.false)

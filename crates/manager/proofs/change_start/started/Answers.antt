@@ -5,20 +5,20 @@ use Rattle.laws.proofs.Picks.{fails, holds}
 use Rattle.manager.specs.Calls.{started_as}
 use Rattle.manager.proofs.change_start.started.Goals as goal
 
-pub returns-in-Connection : goal.returns-in-Connection
-returns-in-Connection c =
+pub returns-in-Ok : goal.returns-in-Ok
+returns-in-Ok c =
     let a = c.args in
-    told (λ x. started_as x a.entry) refl c.in-Connection.is
+    told (λ x. started_as x a.entry) refl c.in-Ok.is
     (c.taking.ensures ∙ rw c.with_connection.ensures)
 
 pub returns-then-takes_number : goal.returns-then-takes_number
 returns-then-takes_number c =
     let a = c.args in
-    told (λ x. started_as x a.entry) refl c.in-Refused.is
+    told (λ x. started_as x a.entry) refl c.in-Err.is
     (holds _ _ c.takes_number.ensures c.if-takes_number.true (c.taking-then-takes_number.ensures ∙ rw c.idle_of.ensures))
 
-pub returns-in-Refused : goal.returns-in-Refused
-returns-in-Refused c =
+pub returns-else-takes_number : goal.returns-else-takes_number
+returns-else-takes_number c =
     let a = c.args in
-    told (λ x. started_as x a.entry) refl c.in-Refused.is
+    told (λ x. started_as x a.entry) refl c.in-Err.is
     (fails _ _ c.takes_number.ensures c.if-takes_number.false c.same.ensures)

@@ -1,7 +1,9 @@
 -- `manager::enter::insert` meets its contract.
 use native.Mathlib.Omega.{arith}
+use mathlib.Core.Path.{ap}
+use lib.ListN.{length}
 use Rattle.man_table.specs.Table.{live}
-use Rattle.manager.proofs.Insertion.{inserted, place_small, place_within, read_back, shifting_more, shifting_none}
+use Rattle.manager.proofs.Insertion.{inserted, place_small, place_within, shifting_more, shifting_none}
 use borrow.Author.Rules.{rules}
 use Rattle.manager.proofs.enter.insert.Goals as goal
 
@@ -18,10 +20,16 @@ pub bounds-out-place : goal.bounds-out-place
 bounds-out-place c = search (rules, place_small)
 
 pub loop-i-init : goal.loop-i-init
-loop-i-init c = search (rules, shifting_none)
+loop-i-init c =
+    let a = c.args in
+    rw c.held-held.ensures
+    (shifting_none (live a.m) _ a.c _ c.requires (place_within _ _ _ c.place_of-place.ensures) c.first_of-out.ensures)
 
 pub loop-i-preserved : goal.loop-i-preserved
-loop-i-preserved c = search (rules, shifting_more)
+loop-i-preserved c = shifting_more _ _ _ _ _ _ c.loop-i.invariant c.loop-i-test.true
 
 pub returns : goal.returns
-returns c = search (rules, inserted, read_back)
+returns c =
+    let h = place_within _ _ _ c.place_of-place.ensures in
+    let k = ap length c.held-held.ensures in
+    inserted c.args.m c.args.c _ _ _ _ _ c.held-held.ensures c.place_of-place.ensures c.loop-i.invariant (omega (arith, h, k))

@@ -5,11 +5,11 @@ use Rattle.manager.specs.Plan.{plan_given, plan_step}
 use Rattle.laws.proofs.Clauses.{value_output}
 use Rattle.manager.proofs.plan.plan_step.Goals as goal
 
-pub returns-in-Refused : goal.returns-in-Refused
-returns-in-Refused c =
+pub returns-in-Err : goal.returns-in-Err
+returns-in-Err c =
     let a = c.args in
     let e = c.at_turn.ensures in
-    let f = c.in-Refused.is in
+    let f = c.in-Err.is in
     value_output ((
       told (λ x. (plan_step x a.t a.k a.n a.store.now a.output.now).plan) e f (rw c.same.ensures),
       told (λ x. (plan_step x a.t a.k a.n a.store.now a.output.now).output) e f refl,
@@ -19,21 +19,21 @@ pub returns-in_default : goal.returns-in_default
 returns-in_default c =
     let a = c.args in
     let e = c.at_turn.ensures in
-    let f = c.in-Went.is in
-    let s = c.in-Went.s in
+    let f = c.in-Ok.is in
+    let s = c.in-Ok.s in
     let g = c.in_default.is in
     value_output ((
       told (λ x. (plan_step x a.t a.k a.n a.store.now a.output.now).plan) e f (told (λ x. (plan_given x s.connection a.t a.k a.n a.store.now a.output.now).plan) refl g refl),
       told (λ x. (plan_step x a.t a.k a.n a.store.now a.output.now).output) e f (told (λ x. (plan_given x s.connection a.t a.k a.n a.store.now a.output.now).output) refl g refl),
     ))
 
-pub returns-in-Went : goal.returns-in-Went
-returns-in-Went c =
+pub returns-in-Some : goal.returns-in-Some
+returns-in-Some c =
     let a = c.args in
     let e = c.at_turn.ensures in
-    let f = c.in-Went.is in
-    let s = c.in-Went.s in
-    let g = c.in-Gives.is in
+    let f = c.in-Ok.is in
+    let s = c.in-Ok.s in
+    let g = c.in-Some.is in
     value_output ((
       told (λ x. (plan_step x a.t a.k a.n a.store.now a.output.now).plan) e f
           (told (λ x. (plan_given x s.connection a.t a.k a.n a.store.now a.output.now).plan) refl g (rw (c.putting.ensures, c.sent_to.ensures))),

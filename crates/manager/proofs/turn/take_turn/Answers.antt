@@ -11,7 +11,7 @@ pub returns-then-output-lt-OUTPUT_SIZE : goal.returns-then-output-lt-OUTPUT_SIZE
 unfolding called turn_of
 returns-then-output-lt-OUTPUT_SIZE c =
     value_output (after_parts c.args.store.now
-    (is _ _ _ _ c.if-store-eq-STORE_SIZE.true (below _ _ _ _ c.if-output-lt-OUTPUT_SIZE.true (rw c.refusing.ensures))))
+    (is _ _ _ _ (rw c.in-Some.is at c.as_array.ensures.cases).long (below _ _ _ _ c.if-output-lt-OUTPUT_SIZE.true (rw c.refusing-then-output-lt-OUTPUT_SIZE.ensures))))
 
 pub returns-in-Refused : goal.returns-in-Refused
 unfolding called turn_of
@@ -19,7 +19,7 @@ returns-in-Refused c =
     let a = c.args in
     let x = turn_refused a.m a.t a.n a.store.now a.output.now _ c.walk-w.ensures _ c.in-Refused.is in
     value_output (after_parts a.store.now
-    (is _ _ _ _ c.if-store-eq-STORE_SIZE.true
+    (is _ _ _ _ (rw c.in-Some.is at c.as_array.ensures.cases).long
     (not_below _ _ _ _ c.if-output-lt-OUTPUT_SIZE.false (rw c.refusing-in-Refused.ensures x))))
 
 pub returns-in-Through : goal.returns-in-Through
@@ -28,7 +28,7 @@ returns-in-Through c =
     let a = c.args in
     let x = turn_through a.m a.t a.n a.store.now a.output.now _ c.walk-w.ensures c.in-Through.is in
     value_output (after_parts a.store.now
-    (is _ _ _ _ c.if-store-eq-STORE_SIZE.true
+    (is _ _ _ _ (rw c.in-Some.is at c.as_array.ensures.cases).long
     (not_below _ _ _ _ c.if-output-lt-OUTPUT_SIZE.false (rw c.leaving.ensures x))))
 
 pub returns-in-Stopped : goal.returns-in-Stopped
@@ -37,13 +37,13 @@ returns-in-Stopped c =
     let a = c.args in
     let x =
     turn_stopped a.m a.t a.n a.store.now a.output.now _ c.walk-w.ensures _ _ _ _ c.in-Stopped.is
-    c.held_at-c.ensures (c.write_payload.ensures.output_after ∙ rw c.room_in.ensures) in
+    c.held_at-c.ensures (c.write_payload.ensures.output_after ∙ rw (c.room_in.ensures, (rw c.in-Some.is at c.as_array.ensures.cases).same)) in
     value_output (after_parts a.store.now
-    (is _ _ _ _ c.if-store-eq-STORE_SIZE.true
+    (is _ _ _ _ (rw c.in-Some.is at c.as_array.ensures.cases).long
     (not_below _ _ _ _ c.if-output-lt-OUTPUT_SIZE.false
     (rw (c.leaving-in-Stopped.ensures, c.sent_to.ensures) x))))
 
-pub returns : goal.returns
+pub returns-in_default : goal.returns-in_default
 unfolding called turn_of
-returns c =
-    value_output (after_parts c.args.store.now (is_not _ _ _ _ c.if-store-eq-STORE_SIZE.false (rw c.refusing-2.ensures)))
+returns-in_default c =
+    value_output (after_parts c.args.store.now (is_not _ _ _ _ (rw c.in_default.is at c.as_array.ensures.cases) (rw c.refusing.ensures)))

@@ -11,11 +11,11 @@ returns-in_default c = told (λ x. value_by x c.args.c) refl c.in_default.is ref
 pub returns-then-is_complete : goal.returns-then-is_complete
 returns-then-is_complete c =
     let a = c.args in
-    told (λ x. value_by x a.c) refl c.in-Ended.is
+    told (λ x. value_by x a.c) refl c.in-Some.is
     (holds _ _ c.is_complete.ensures c.if-is_complete.true c.value_for.ensures)
 
 pub returns : goal.returns
 returns c =
     let a = c.args in
-    told (λ x. value_by x a.c) refl c.in-Ended.is
+    told (λ x. value_by x a.c) refl c.in-Some.is
     (fails _ _ c.is_complete.ensures c.if-is_complete.false refl)

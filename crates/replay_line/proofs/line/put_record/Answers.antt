@@ -1,15 +1,8 @@
 -- `replay_line::line::put_record` meets its contract: two texts, each with a space behind it.
-use native.Mathlib.Omega.{arith}
 use Rattle.replay_line.proofs.PutText.{puts}
-use Rattle.replay_line.proofs.SpelledDigits.{power_4}
 use Rattle.replay_line.specs.Line.{record_text}
-use Rattle.laws.proofs.Clauses.{put_bound}
 use Rattle.replay_line.proofs.line.put_record.Goals as goal
-
-pub put_decimal-first-requires : goal.put_decimal-first-requires
-put_decimal-first-requires c = record { places_in_bounds = omega arith; p_value = power_4 }
 
 pub returns : goal.returns
 unfolding record_text
-returns c =
-    put_bound (puts (puts c.put_decimal-first.ensures.put c.put_byte-second.ensures.put) (puts c.put_operation-third.ensures.put c.put_byte.ensures.put), omega arith)
+returns c = puts (puts c.decimal.ensures c.byte.ensures) (puts c.put_operation.ensures c.byte-2.ensures)

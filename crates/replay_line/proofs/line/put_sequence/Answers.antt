@@ -2,11 +2,9 @@
 use native.Mathlib.Omega.{arith}
 use mathlib.Core.Path.{refl, ap, ◌∙◌}
 use Rattle.replay_line.proofs.LineBuffer.{filled}
-use Rattle.replay_line.proofs.PutText.{put_as}
+use Rattle.replay_line.proofs.PutText.{put_as, put_within}
 use Rattle.replay_line.specs.Text.{hex}
-use Rattle.laws.proofs.Clauses.{put_value}
 use Rattle.replay_line.proofs.line.put_sequence.Goals as goal
 
 pub returns : goal.returns
-returns c =
-    put_value (put_as (ap hex (c.serialize.ensures.buffer_after ∙ filled _ _ refl)) c.put_hex.ensures.put, omega arith)
+returns c = put_as (ap hex (c.serialize.ensures.buffer_after ∙ filled _ _ refl)) (put_within 8 (omega arith) c.hex.ensures)

@@ -1,9 +1,13 @@
--- `replay_piece::replay::moved` meets its contract: the plan, and its line or its value.
+-- `replay_piece::replay::moved` meets its contract: the plan, and its line or its value, which has room.
 use mathlib.Core.Path.{refl}
 use Rattle.manager.proofs.PlanCalls.{plan_keeps}
 use borrow.Author.Rules.{rules}
 use Rattle.laws.proofs.Clauses.{value_output_text}
+use Rattle.replay_piece.proofs.LineRoom.{has_room, line_told}
 use Rattle.replay_piece.proofs.replay.moved.Goals as goal
+
+pub unwrap-n-requires : goal.unwrap-n-requires
+unwrap-n-requires c = has_room _ _ _ c.requires _ c.write_value.ensures.value
 
 pub returns-in-Values : goal.returns-in-Values
 returns-in-Values c =
@@ -13,10 +17,15 @@ returns-in-Values c =
     let w = c.value_after-value.ensures in
     let a = c.args in
     let k = plan_keeps a.plan a.run.manager a.store.now a.output.now in
-    value_output_text (rw (v, ← k, ← c.carry_out-d.ensures.value, ← c.carry_out-d.ensures.output_after, ← n, ← o) (rw (c.run_of.ensures, c.told_value-text.ensures.value, w), (refl, (c.told_value-text.ensures.text_after, (search rules, c.told_value-text.ensures.text_len_unchanged)))))
+    let t = line_told _ _ _ c.requires _ c.write_value.ensures.value c.unwrap-n.ensures c.write_value.ensures.short c.write_value.ensures.out_after in
+    value_output_text (rw (v, ← k, ← c.carry_out-answer.ensures.value, ← c.carry_out-answer.ensures.output_after, ← n, ← o) (rw (t.0, w), (refl, (t.1.0, (search rules, t.1.1)))))
+
+pub unwrap-n-requires-2 : goal.unwrap-n-requires-2
+unwrap-n-requires-2 c = has_room _ _ _ c.requires _ c.write_line.ensures.value
 
 pub returns : goal.returns
 returns c =
     let v = c.in_default.is in
     let w = c.value_after-value.ensures in
-    value_output_text (rw (v, ← c.carry_out-d.ensures.value, ← c.carry_out-d.ensures.output_after) (rw (c.run_of-2.ensures, c.told-text.ensures.value, w), (refl, (c.told-text.ensures.text_after, (search rules, c.told-text.ensures.text_len_unchanged)))))
+    let t = line_told _ _ _ c.requires _ c.write_line.ensures.value c.unwrap-n-2.ensures c.write_line.ensures.short c.write_line.ensures.out_after in
+    value_output_text (rw (v, ← c.carry_out-answer.ensures.value, ← c.carry_out-answer.ensures.output_after) (rw (t.0, w), (refl, (t.1.0, (search rules, t.1.1)))))

@@ -54,15 +54,3 @@ returns-in-Turns c =
       gather_after = refl;
       output_after = c.plan_turn.ensures.output_after;
     })
-
-pub returns-in-Gather : goal.returns-in-Gather
-returns-in-Gather c =
-    let a = c.args in
-    plans a.m a.store.now a.output.now
-    (ap (λ x. operation_asks x a.mode a.r a.already a.when a.own.now a.gather.now) (sym c.in-Gather.is))
-    (record {
-      value = c.gathered_as.ensures ∙ rw c.gather_more.ensures.value;
-      store_after = refl;
-      gather_after = c.gather_more.ensures.gather_after;
-      output_after = refl;
-    })

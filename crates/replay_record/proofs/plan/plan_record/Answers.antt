@@ -11,26 +11,26 @@ returns-then-gather-lt-GATHER_SIZE c =
     plans a.m a.store.now a.output.now (unread a.gathered a.b.now a.choices a.gather.now c.if-gather-lt-GATHER_SIZE.true)
     (record { value = c.answered.ensures ∙ rw c.at_most-already.ensures; store_after = refl; gather_after = refl; output_after = refl })
 
-pub returns-in-Refused : goal.returns-in-Refused
-returns-in-Refused c =
+pub returns-in-Err : goal.returns-in-Err
+returns-in-Err c =
     let a = c.args in
     plans a.m a.store.now a.output.now
     (reads a.gathered a.b.now a.choices a.gather.now c.if-gather-lt-GATHER_SIZE.false
-    c.read_record.ensures c.in-Refused.is)
-    (record { value = c.answered-in-Refused.ensures ∙ rw c.at_most-already.ensures; store_after = refl; gather_after = refl; output_after = refl })
+    c.read_record.ensures c.in-Err.is)
+    (record { value = c.answered-in-Err.ensures ∙ rw c.at_most-already.ensures; store_after = refl; gather_after = refl; output_after = refl })
 
 pub perform-requires : goal.perform-requires
 perform-requires c =
-    let l = own_short c.args.b.now (sym c.in-Record.is ∙ c.read_record.ensures) c.part-own.ensures in
+    let l = own_short c.args.b.now (sym c.in-Ok.is ∙ c.read_record.ensures) c.part-own.ensures in
     omega arith
 
-pub returns-in-Record : goal.returns-in-Record
-returns-in-Record c =
+pub returns-in-Ok : goal.returns-in-Ok
+returns-in-Ok c =
     let a = c.args in
     plans a.m a.store.now a.output.now
     (reads a.gathered a.b.now a.choices a.gather.now c.if-gather-lt-GATHER_SIZE.false
     c.read_record.ensures
-    c.in-Record.is)
+    c.in-Ok.is)
     (rw (
       ← c.at_most-already.ensures,
       ← c.part-own.ensures,

@@ -8,7 +8,7 @@ use Rattle.replay_record.proofs.plan.plan_use.Goals as goal
 pub returns-in-Write : goal.returns-in-Write
 unfolding plan_of
 returns-in-Write c =
-    value_store (rw c.in-Write.is (ap Plan.Change c.write_change-change.ensures.value, c.write_change-change.ensures.store_after))
+    value_store (rw c.in-Write.is (ap Plan.Change c.write_change.ensures.value, c.write_change.ensures.store_after))
 
 pub returns-in-Dcf : goal.returns-in-Dcf
 unfolding plan_of

@@ -10,12 +10,6 @@ returns-then-buffer-start c =
     let h = c.head_len-start.ensures in
     value_buffer (write_refused _ _ (omega arith))
 
-pub returns-then-buffer-start-2 : goal.returns-then-buffer-start-2
-returns-then-buffer-start-2 c =
-    let n = bytes_length c.args.self c.args.payload.now in
-    let h = c.head_len-start.ensures in
-    value_buffer (write_refused _ _ (omega arith))
-
 pub put_head-requires : goal.put_head-requires
 put_head-requires c =
     let n = head_length_lem c.args.self in

@@ -7,4 +7,4 @@ pub returns-then-buffer-lt4 : goal.returns-then-buffer-lt4
 returns-then-buffer-lt4 c = sequence_short _ (omega arith)
 
 pub returns : goal.returns
-returns c = sequence_whole _ _ (omega arith) (rw (c.receive_state.ensures, c.send_state.ensures))
+returns c = sequence_whole _ _ (omega arith) (rw (c.from.ensures, c.from-2.ensures))

@@ -16,4 +16,4 @@ bounds-buffer-2 c = simp length-set (omega arith)
 
 pub returns : goal.returns
 returns c =
-    value_buffer (write_four _ _ _ _ _ _ (omega arith) (rw (c.receive_number.ensures.0, c.send_number.ensures.0)))
+    value_buffer (write_four _ _ _ _ _ _ (omega arith) (rw (c.from.ensures.0, c.from-2.ensures.0)))

@@ -1,0 +1,47 @@
+-- `replay_line::line::write_with` meets its contract: refused without room, and else the text.
+use borrow.Author.Rules.{rules}
+use native.Mathlib.Omega.{arith}
+use mathlib.Core.Path.{ap, ◌∙◌}
+use Rattle.std.specs.Prelude.{Err}
+use Rattle.std.proofs.lemmas.Result.{err_from_is_err_and}
+use Rattle.replay_line.proofs.Lines.{no_room, room_left, text_written}
+use Rattle.replay_line.proofs.PutText.{puts}
+use Rattle.replay_line.specs.Line.{line_with}
+use Rattle.replay_line.proofs.line.write_with.Goals as goal
+
+pub returns-in_err-room-clause-value : goal.returns-in_err-room-clause-value
+returns-in_err-room-clause-value c =
+    let x = err_from_is_err_and c.from_residual.result c.from_residual.ensures.1 in
+    x.1 ∙ ap Err x.2 ∙ (no_room _ _ c.room.ensures _ c.in_err-room.was).0
+
+pub returns-in_err-room-clause-out_after : goal.returns-in_err-room-clause-out_after
+returns-in_err-room-clause-out_after c = (no_room _ _ c.room.ensures _ c.in_err-room.was).1
+
+pub put_record-requires : goal.put_record-requires
+put_record-requires c = let l = room_left _ _ c.room.ensures c.in_ok-room.was in omega arith
+
+pub put_answer-requires : goal.put_answer-requires
+put_answer-requires c = let l = room_left _ _ c.room.ensures c.in_ok-room.was in omega arith
+
+pub put_ends-requires-clause-room : goal.put_ends-requires-clause-room
+put_ends-requires-clause-room c = let l = room_left _ _ c.room.ensures c.in_ok-room.was in omega arith
+
+pub byte-requires : goal.byte-requires
+byte-requires c = let l = room_left _ _ c.room.ensures c.in_ok-room.was in omega arith
+
+pub returns-clause-value : goal.returns-clause-value
+unfolding line_with
+returns-clause-value c =
+    (text_written _ _ (room_left _ _ c.room.ensures c.in_ok-room.was) (puts (puts (puts c.put_record.ensures c.put_answer.ensures) c.put_ends.ensures) c.byte.ensures) (omega arith)).0
+
+pub returns-clause-out_after : goal.returns-clause-out_after
+unfolding line_with
+returns-clause-out_after c =
+    let p = (puts (puts (puts c.put_record.ensures c.put_answer.ensures) c.put_ends.ensures) c.byte.ensures) in
+    let s = p.same_buffer in
+    let w = (text_written _ _ (room_left _ _ c.room.ensures c.in_ok-room.was) p (omega arith)).1.0 in
+    search (rules, w, s)
+
+pub returns-clause-short : goal.returns-clause-short
+returns-clause-short c =
+    (text_written _ _ (room_left _ _ c.room.ensures c.in_ok-room.was) (puts (puts (puts c.put_record.ensures c.put_answer.ensures) c.put_ends.ensures) c.byte.ensures) (omega arith)).1.1

@@ -113,6 +113,11 @@ def arithmetic():
             yield name
 
 
+def printing():
+    """A text or a number printed by a call of its own."""
+    return lines(r"^\s*(?:console::)?(?:text|number|small|hex)\(rt|rt\.print\(")
+
+
 def facts():
     """Facts of `requires`, numbers and names of buffers set to one, that stand in three contracts or more."""
     count = collections.Counter()
@@ -185,6 +190,7 @@ POINTS = {
     "4b": ("an enum from a number by hand", to_enum),
     "4c": ("a number or letter from an enum by hand", from_enum),
     "4d": ("min, max, saturating and checked arithmetic by hand", arithmetic),
+    "4e": ("a text or a number printed by a call of its own", printing),
     "5a": ("facts of requires that stand three times or more", facts),
     "5b": ("parameters that stand together in three functions or more, by groups", groups),
     "6a": ("a length beside a buffer or an array", lengths),

@@ -1,3 +1,4 @@
+pub mod Held
 pub mod Places
 pub mod Readable
 pub mod SuccessiveCalls

@@ -12,7 +12,6 @@ use con_reply::reply::handle_response;
 use connection::ask::get_pending_request;
 use connection::start::{start_concise_dcf_job, start_read_job, start_write_job};
 use connection::tick::tick;
-use console::text;
 use std::io;
 
 mod totals;
@@ -36,19 +35,19 @@ fn refused(rt: &impl Print, r: Refusal, c: SdoClientConnection) -> io::Result<Sd
 // What ask or tick gave, on a line: the frame, `-` for nothing, or the refusal's number.
 fn show(
     rt: &impl Print,
-    what: &[u8],
+    what: &str,
     s: Result<Step, Refusal>,
     c: SdoClientConnection,
     room: &[u8],
 ) -> io::Result<SdoClientConnection> {
-    text(rt, what)?;
+    print!(rt; "{what}")?;
     match s {
         Ok(step) => {
             let sends = step.sends;
             let after = step.connection;
             match sends {
                 Some(o) => frame(rt, o, room)?,
-                None => text(rt, b"-")?,
+                None => print!(rt; "-")?,
             }
             println!(rt)?;
             Ok(after)
@@ -60,11 +59,11 @@ fn show(
 // What a start or a reply came to: 0 or the refusal's number.
 fn came(
     rt: &impl Print,
-    what: &[u8],
+    what: &str,
     a: Result<SdoClientConnection, Refusal>,
     c: SdoClientConnection,
 ) -> io::Result<SdoClientConnection> {
-    text(rt, what)?;
+    print!(rt; "{what}")?;
     match a {
         Ok(after) => {
             println!(rt; "0")?;
@@ -141,7 +140,7 @@ fn reply(
     octet: u8,
     room: &mut [u8],
 ) -> io::Result<SdoClientConnection> {
-    came(rt, b"reply ", replied(c, octet, room), c)
+    came(rt, "reply ", replied(c, octet, room), c)
 }
 
 // Document 01's five records.
@@ -149,10 +148,10 @@ fn run(rt: &impl Print) -> io::Result<()> {
     let mut room = [0u8; 4096];
     let new = SdoClientConnection::new(5, 0);
     let bytes = [0x01, 0x04];
-    let c = came(rt, b"write ", write_of(new, &bytes, &mut room), new)?;
-    let c = show(rt, b"ask ", get_pending_request(c, absent(0)), c, &room)?;
+    let c = came(rt, "write ", write_of(new, &bytes, &mut room), new)?;
+    let c = show(rt, "ask ", get_pending_request(c, absent(0)), c, &room)?;
     let c = reply(rt, c, 0x01, &mut room)?;
-    let c = show(rt, b"ask ", get_pending_request(c, absent(0)), c, &room)?;
+    let c = show(rt, "ask ", get_pending_request(c, absent(0)), c, &room)?;
     let c = reply(rt, c, 0x06, &mut room)?;
     end(rt, c)
 }
@@ -163,22 +162,22 @@ fn timeouts(rt: &impl Print) -> io::Result<()> {
     let new = SdoClientConnection::new(5, 0);
     let c = came(
         rt,
-        b"read ",
+        "read ",
         start_read_job(new, Mode::Repository, 0x2100, 1, 1, with_retries(0, 0)),
         new,
     )?;
-    let c = show(rt, b"tick ", tick(c, with_retries(14999999, 0)), c, &room)?;
-    let c = show(rt, b"tick ", tick(c, with_retries(15000000, 0)), c, &room)?;
+    let c = show(rt, "tick ", tick(c, with_retries(14999999, 0)), c, &room)?;
+    let c = show(rt, "tick ", tick(c, with_retries(15000000, 0)), c, &room)?;
     end(rt, c)?;
     let d = came(
         rt,
-        b"read ",
+        "read ",
         start_read_job(new, Mode::Repository, 0x2100, 1, 1, with_retries(0, 1)),
         new,
     )?;
-    let d = show(rt, b"tick ", tick(d, with_retries(15000000, 1)), d, &room)?;
-    let d = show(rt, b"tick ", tick(d, with_retries(29999999, 1)), d, &room)?;
-    let d = show(rt, b"tick ", tick(d, with_retries(30000000, 1)), d, &room)?;
+    let d = show(rt, "tick ", tick(d, with_retries(15000000, 1)), d, &room)?;
+    let d = show(rt, "tick ", tick(d, with_retries(29999999, 1)), d, &room)?;
+    let d = show(rt, "tick ", tick(d, with_retries(30000000, 1)), d, &room)?;
     end(rt, d)
 }
 
@@ -188,15 +187,15 @@ fn repeats(rt: &impl Print) -> io::Result<()> {
     let new = SdoClientConnection::new(5, 0);
     let c = came(
         rt,
-        b"read ",
+        "read ",
         start_read_job(new, Mode::Repository, 0x2100, 1, 7, absent(0)),
         new,
     )?;
-    let c = show(rt, b"ask ", get_pending_request(c, absent(0)), c, &room)?;
-    let c = show(rt, b"ask ", get_pending_request(c, absent(0)), c, &room)?;
-    let c = show(rt, b"tick ", tick(c, absent(15000000)), c, &room)?;
-    let c = show(rt, b"tick ", tick(c, absent(30000000)), c, &room)?;
-    let c = show(rt, b"tick ", tick(c, absent(45000000)), c, &room)?;
+    let c = show(rt, "ask ", get_pending_request(c, absent(0)), c, &room)?;
+    let c = show(rt, "ask ", get_pending_request(c, absent(0)), c, &room)?;
+    let c = show(rt, "tick ", tick(c, absent(15000000)), c, &room)?;
+    let c = show(rt, "tick ", tick(c, absent(30000000)), c, &room)?;
+    let c = show(rt, "tick ", tick(c, absent(45000000)), c, &room)?;
     end(rt, c)
 }
 
@@ -215,12 +214,12 @@ fn rooms(rt: &impl Print) -> io::Result<()> {
     let new = SdoClientConnection::new(5, 0);
     let data = [7u8; 4096];
     let over = part(&data, 0, 4093);
-    let c = came(rt, b"write 4093 ", write_of(new, over, &mut room), new)?;
+    let c = came(rt, "write 4093 ", write_of(new, over, &mut room), new)?;
     let most = part(&data, 0, 4092);
-    let c = came(rt, b"write 4092 ", write_of(c, most, &mut room), c)?;
+    let c = came(rt, "write 4092 ", write_of(c, most, &mut room), c)?;
     let c = came(
         rt,
-        b"read ",
+        "read ",
         start_read_job(c, Mode::Repository, 0x2100, 1, 1, absent(0)),
         c,
     )?;
@@ -234,13 +233,13 @@ fn refusals(rt: &impl Print) -> io::Result<()> {
     let three = [2u8, 0, 0];
     let c = came(
         rt,
-        b"dcf ",
+        "dcf ",
         start_concise_dcf_job(new, Mode::Repository, &three, 1, absent(0), &mut room),
         new,
     )?;
     let c = came(
         rt,
-        b"read ",
+        "read ",
         start_read_job(
             c,
             Mode::Repository,

@@ -5,7 +5,6 @@ use codec::octets::part;
 use con_rec::{Mode, Outgoing, SdoClientConnection, Step};
 use connection::ask::get_pending_request;
 use connection::start::start_write_job;
-use console::text;
 use std::io;
 
 fn kind(s: Segmentation) -> &'static str {
@@ -89,7 +88,7 @@ fn parts(rt: &impl Print, name: &str, mode: Mode, total: usize) -> io::Result<()
     for octet in [0x06, 0x0A, 0x0E] {
         c = next_part(rt, c, octet, &mut room)?;
     }
-    text(rt, b" ")?;
+    print!(rt; " ")?;
     end(rt, c)
 }
 

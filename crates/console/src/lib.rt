@@ -1,4 +1,4 @@
-// What the programs read, until a buffer is full; and what they write to standard output: text, numbers, bytes in hex, frames. No contract can say what is
+// What the programs read, until a buffer is full; and what they write to standard output: a value or `-`, bytes in hex, frames. No contract can say what is
 // written.
 #![tactic(auto)]
 
@@ -28,6 +28,7 @@ pub fn read_full(from: &mut impl Read, buf: &mut [u8]) -> usize
     ensures { result ≤ length buf.new }
 {
     let mut done: usize = 0;
+    // `read_exact` does not tell how many bytes came before it failed
     while done < buf.len() {
         match from.read(&mut buf[done..]) {
             Ok(0) | Err(_) => break,
@@ -35,33 +36,6 @@ pub fn read_full(from: &mut impl Read, buf: &mut [u8]) -> usize
         }
     }
     done
-}
-
-pub fn text(rt: &impl Print, b: &[u8]) -> io::Result<()>
-    ensures { Unit {0} }
-{
-    rt.write_all(b)
-}
-
-pub fn number(rt: &impl Print, n: u64) -> io::Result<()>
-    ensures { Unit {0} }
-{
-    rt.print(n)
-}
-
-// A number of one byte: a node, a refusal.
-pub fn small(rt: &impl Print, n: u8) -> io::Result<()>
-    ensures { Unit {0} }
-{
-    rt.print(n)
-}
-
-// A number in hex, with zeros in front up to so many digits, sixteen at most.
-pub fn hex(rt: &impl Print, n: u64, digits: usize) -> io::Result<()>
-    ensures { Unit {0} }
-{
-    let width = digits.min(16);
-    print!(rt; "{n:0width$x}")
 }
 
 // Bytes in hex.

@@ -4,7 +4,7 @@ use codec::command::SdoCommand;
 use codec::octets::part;
 use codec::sequence::SequenceLayerHeader;
 use con_rec::Reason;
-use console::octets;
+use console::{OrDash, octets};
 use man_lent::types::Told;
 use man_table::types::Ends;
 use manager::types::Answer;
@@ -82,10 +82,7 @@ pub(crate) fn told(rt: &impl Print, t: Told, output: &[u8]) -> io::Result<()> {
 }
 
 pub(crate) fn next(rt: &impl Print, due: Option<u64>) -> io::Result<()> {
-    match due {
-        Some(time) => println!(rt; "next {time}"),
-        None => println!(rt; "next -"),
-    }
+    println!(rt; "next {}", OrDash(due))
 }
 
 // What a read of an object brought.

@@ -13,7 +13,8 @@ pub const ROOM_SIZE: usize = 4096;
 
 pub const LAST_ROOM: usize = 28672;
 
-// The first `count` connections are held, ascending by node; the rest are blank.
+// The first `count` connections are held, ascending by node; the rest are blank. An array and a count, as document 01 has it: the calls answer for any
+// count (`live`).
 #[derive(Clone, Copy)]
 pub struct SdoClientManager {
     pub connections: [SdoClientConnection; 8],
@@ -21,7 +22,7 @@ pub struct SdoClientManager {
     pub next_transaction_id: u8,
 }
 
-// The ends that a call reports: the first `count`, ascending by node.
+// The ends that a call reports: the first `count`, ascending by node; any count is one, as in the manager.
 #[derive(Clone, Copy)]
 pub struct Ends {
     pub list: [End; 8],
@@ -36,14 +37,15 @@ pub enum Entry {
     New(SdoClientConnection),
 }
 
-// Which call walks the table.
+// Which call walks the table. A value and no closure: an event of a history holds it.
 #[derive(Clone, Copy)]
 pub enum Turn {
     Asking,
     Ticking,
 }
 
-// How a walk was left: at the first connection that gives a command, with the command; at the end; or refused.
+// How a walk was left: at the first connection that gives a command, with the command; at the end; or refused. Three outcomes, and the manager beside
+// them, so no `Result`.
 #[derive(Clone, Copy)]
 pub enum Walked {
     Stopped(usize, Outgoing),

@@ -22,7 +22,7 @@ pub fn at_turn(t: Turn, c: SdoClientConnection, n: Now) -> Result<Step, Refusal>
 }
 
 // Whether an ask leaves a connection as it is and gives nothing, as its record shows at a glance: it waits for a reply, or is in a state that
-// asks nothing.
+// asks nothing. State by state, since a wrong client changes one.
 #[tactic(auto, using(crate::proofs::RestingTurns::asks_never, crate::proofs::RestingTurns::asks_by))]
 fn nothing_to_ask(c: SdoClientConnection) -> bool
     ensures { result ≡ nothing_to_ask c }

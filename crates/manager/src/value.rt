@@ -21,6 +21,7 @@ fn value_for(pending: Option<ReadByIndexRequest>, c: SdoClientConnection) -> Ans
 pub(crate) fn value_of(c: SdoClientConnection) -> Answer
     ensures { result ≡ value_of c }
 {
+    // no `?`: nothing is a case of the answer
     let Some(why) = c.outcome else {
         return Answer::Nothing;
     };

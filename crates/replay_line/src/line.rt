@@ -36,6 +36,7 @@ use manager::types::{Answer, OUTPUT_SIZE, SentTo};
 // The room that a line is sure to fit in: the longest is that of a value of 4,096 bytes.
 pub const MOST_LINE: usize = 8211;
 
+// Document 01's letter of each reason.
 fn letter(r: Reason) -> u8
     ensures { result ≡ letter_of r }
 {

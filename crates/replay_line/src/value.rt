@@ -18,6 +18,7 @@ fn put_object(text: &mut Text, index: u16, sub_index: u8)
     requires { Room text.old 7 }
     ensures { Puts text.old (object_text index sub_index) 7 text.new }
 {
+    // not `to_be_bytes`: of its first byte std says / 256 % 256, and the proof did not close
     text.hex(&[(index / 256) as u8, (index % 256) as u8]);
     text.byte(b':');
     text.hex(&[sub_index]);

@@ -47,6 +47,7 @@ fn answered(answer: Answer, gathered: usize) -> RecordPlan
 fn reply_header(index: u16) -> SequenceLayerHeader
     ensures { result ≡ reply_header index }
 {
+    // not `to_le_bytes`: of its second byte std says / 256 % 256, and the proof did not close
     let octets = [(index % 256) as u8, (index / 256) as u8, 0, 0];
     // four bytes are a header
     SequenceLayerHeader::deserialize(&octets).unwrap()

@@ -114,6 +114,7 @@ fn piece_by(
 ) -> io::Result<Run> {
     let mut r = run;
     let mut left = input;
+    // how far a turn goes is its answer
     while !left.is_empty() {
         r = some(rt, r, p, left, lent)?;
         // none is read where 65,535 were

@@ -16,6 +16,7 @@ fn read_input(from: &mut impl Read, input: &mut [u8]) -> io::Result<usize>
     ensures { IfOk result (λ n. n ≤ length input.new) }
 {
     let mut n: usize = 0;
+    // `read_exact` does not tell how many bytes there were
     while n < input.len() {
         match from.read(&mut input[n..])? {
             0 => break,

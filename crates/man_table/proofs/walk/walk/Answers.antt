@@ -1,12 +1,6 @@
 -- `man_table::walk::walk` meets its contract.
-use native.Mathlib.Omega.{arith}
-use mathlib.Core.Path.{refl}
-use Rattle.man_table.proofs.WalkLoop.{going_more, going_none, going_rest, passes, refuses, stops}
-use borrow.Author.Rules.{rules}
+use Rattle.man_table.proofs.WalkLoop.{going_more, going_rest, passes, refuses, stops}
 use Rattle.man_table.proofs.walk.walk.Goals as goal
-
-pub loop-i-init : goal.loop-i-init
-loop-i-init c = (going_none _ _ _ _ (omega arith), record { count = refl; number = refl }, search rules)
 
 pub loop-i-preserved-then-rests : goal.loop-i-preserved-then-rests
 loop-i-preserved-then-rests c =

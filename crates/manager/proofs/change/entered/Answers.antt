@@ -9,9 +9,6 @@ use Rattle.man_table.proofs.Tables.{live_length}
 use Rattle.manager.specs.Change.{entered_at}
 use Rattle.manager.proofs.change.entered.Goals as goal
 
-pub insert-requires : goal.insert-requires
-insert-requires c = let e = live_length _ _ c.lived.ensures in omega arith
-
 pub returns-then-lived-lt8 : goal.returns-then-lived-lt8
 unfolding entered_at
 returns-then-lived-lt8 c =

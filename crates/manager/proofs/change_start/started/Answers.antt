@@ -5,12 +5,6 @@ use Rattle.laws.proofs.Picks.{fails, holds}
 use Rattle.manager.specs.Calls.{started_as}
 use Rattle.manager.proofs.change_start.started.Goals as goal
 
-pub returns-in-Ok : goal.returns-in-Ok
-returns-in-Ok c =
-    let a = c.args in
-    told (λ x. started_as x a.entry) refl c.in-Ok.is
-    (c.taking.ensures ∙ rw c.with_connection.ensures)
-
 pub returns-then-takes_number : goal.returns-then-takes_number
 returns-then-takes_number c =
     let a = c.args in

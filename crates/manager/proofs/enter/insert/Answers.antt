@@ -1,9 +1,7 @@
 -- `manager::enter::insert` meets its contract.
 use native.Mathlib.Omega.{arith}
-use mathlib.Core.Path.{ap}
-use lib.ListN.{length}
 use Rattle.man_table.specs.Table.{live}
-use Rattle.manager.proofs.Insertion.{inserted, place_small, place_within, shifting_more, shifting_none}
+use Rattle.manager.proofs.Insertion.{place_small, place_within, shifting_more, shifting_none}
 use borrow.Author.Rules.{rules}
 use Rattle.manager.proofs.enter.insert.Goals as goal
 
@@ -27,9 +25,3 @@ loop-i-init c =
 
 pub loop-i-preserved : goal.loop-i-preserved
 loop-i-preserved c = shifting_more _ _ _ _ _ _ c.loop-i.invariant c.loop-i-test.true
-
-pub returns : goal.returns
-returns c =
-    let h = place_within _ _ _ c.place_of-place.ensures in
-    let k = ap length c.held-held.ensures in
-    inserted c.args.m c.args.c _ _ _ _ _ c.held-held.ensures c.place_of-place.ensures c.loop-i.invariant (omega (arith, h, k))

@@ -1,11 +1,7 @@
 -- `manager::plan::carry_out` meets its contract: each arm is one plan.
-use mathlib.Core.Path.{refl}
 use Rattle.manager.specs.Calls.{called}
 use Rattle.laws.proofs.Clauses.{value_output}
 use Rattle.manager.proofs.plan.carry_out.Goals as goal
-
-pub returns-in-Change : goal.returns-in-Change
-returns-in-Change c = value_output (rw c.in-Change.is (c.apply_change.ensures, refl))
 
 pub returns-in-Walk : goal.returns-in-Walk
 unfolding called

@@ -5,9 +5,6 @@ use Rattle.laws.proofs.Picks.{holds, fails}
 use Rattle.manager.specs.Value.{value_by}
 use Rattle.manager.proofs.value.value_of.Goals as goal
 
-pub returns-in_default : goal.returns-in_default
-returns-in_default c = told (λ x. value_by x c.args.c) refl c.in_default.is refl
-
 pub returns-then-is_complete : goal.returns-then-is_complete
 returns-then-is_complete c =
     let a = c.args in

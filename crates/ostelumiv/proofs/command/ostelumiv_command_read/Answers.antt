@@ -1,7 +1,6 @@
 -- `ostelumiv::command::ostelumiv_command_read` meets its contract: each arm tells its answer by `command_fields`, and a command that was read has the
 -- number that stands in the buffer.
 use mathlib.Core.Path.{sym, ◌∙◌}
-use borrow.Author.Rules.{rules}
 use Rattle.laws.proofs.Answers.{told}
 use Rattle.codec.proofs.Commands.{read_number}
 use Rattle.ostelumiv.specs.Command.{command_fields}
@@ -26,6 +25,3 @@ returns-in-Ok c =
       present_told,
       size_told,
     ))
-
-pub returns-in-Err : goal.returns-in-Err
-returns-in-Err c = told command_fields c.deserialize.ensures c.in-Err.is (search rules)

@@ -41,7 +41,3 @@ returns-clause-out_after c =
     let s = p.same_buffer in
     let w = (text_written _ _ (room_left _ _ c.room.ensures c.in_ok-room.was) p (omega arith)).1.0 in
     search (rules, w, s)
-
-pub returns-clause-short : goal.returns-clause-short
-returns-clause-short c =
-    (text_written _ _ (room_left _ _ c.room.ensures c.in_ok-room.was) (puts (puts (puts c.put_record.ensures c.put_answer.ensures) c.put_ends.ensures) c.byte.ensures) (omega arith)).1.1

@@ -12,6 +12,3 @@ returns-in_default-2 c = let a = c.args in put_as (no_value a.answer a.number a.
 
 pub put_line-requires-clause-bytes_len_bound : goal.put_line-requires-clause-bytes_len_bound
 put_line-requires-clause-bytes_len_bound c = few _ c.clip.ensures
-
-pub returns : goal.returns
-returns c = rw (c.in-Value-Some.is-0, c.in-Value-Some.is-1, ← c.value_in.ensures, ← c.clip.ensures, ← c.node_of.ensures) c.put_line.ensures

@@ -1,7 +1,6 @@
 -- `replay_piece::replay::replay_piece` meets its contract: each turn goes on by one record, and where the loop stops the piece is done.
 use native.Mathlib.Omega.{arith}
 use Prim.Native.Nat.{ℕ, ◌+◌, ◌-◌, ◌<◌, ◌≤◌}
-use mathlib.Core.Bool.{true, false}
 use mathlib.Core.Path.{◌≡◌, refl, sym, ap, ◌∙◌}
 use lib.ListN.{length}
 use borrow.Author.Rules.{rules}
@@ -9,12 +8,11 @@ use Rattle.codec.specs.Bytes.{Bytes}
 use Rattle.man_table.specs.Sweep.{running}
 use Rattle.man_table.specs.Table.{live, table_of}
 use Rattle.theorems.proofs.Neat.{swept_neat}
-use Rattle.replay_piece.specs.Moves.{moves}
 use Rattle.replay_piece.specs.Piece.{Stand, piece_of, replayed, stand_at}
-use Rattle.replay_piece.specs.Types.{Run, SdoClientManager, Settings, Shows}
+use Rattle.replay_piece.specs.Types.{Run, SdoClientManager, Settings}
 use Rattle.replay_piece.proofs.LineRoom.{has_room, line_told}
 use Rattle.replay_piece.proofs.PieceLeft.{going_begins, going_ends}
-use Rattle.replay_piece.proofs.OneRecord.{few_held, last_record, left_there, lines_only, moved_on_lem, no_room, put_at_lem, put_past, quiet_on}
+use Rattle.replay_piece.proofs.OneRecord.{last_record, left_there, moved_on_lem, no_room, put_at_lem, put_past, quiet_on}
 use Rattle.replay_piece.proofs.replay.replay_piece.Goals as goal
 use Rattle.replay_piece.proofs.replay.replay_piece.Goals.{in-At+then-place-m, in-At+else-place-m, in_default-entry, then-r-via-then-r, then-r-via-else-r+then-full-r}
 
@@ -36,11 +34,6 @@ loop-b-init c =
           (going_begins _ _ _ (rw c.swept-m.ensures (swept_neat (live m) m.next_transaction_id)) refl);
     }
 
-pub moved-after-requires : goal.moved-after-requires
-moved-after-requires c =
-    let l = c.loop-b in
-    roomy c.saturating_sub-full.ensures l.invariant.going.sized.text c.if-full-r.false
-
 pub loop-b-preserved-then-moves : goal.loop-b-preserved-then-moves
 loop-b-preserved-then-moves c =
     let l = c.loop-b in
@@ -60,24 +53,6 @@ loop-b-preserved-then-moves c =
             (c.moved-after.ensures.output_after, (c.moved-after.ensures.text_after, c.moved-after.ensures.lengths_unchanged)),
           );
     }
-
-pub unreachable-requires : goal.unreachable-requires
-unreachable-requires c =
-    let q : true ≡ false =
-    sym (ap (moves Shows.Lines) c.in_default.is)
-    ∙ (lines_only c.plan_of-plan.result.plan c.args.settings.shows (sym c.moves.ensures ∙ c.if-moves.false)).1 in
-    let z : ◌≡◌ {A = ℕ} 0 1 = cc q in
-    absurd (omega arith)
-
-pub offset_bounds-m-place : goal.offset_bounds-m-place
-offset_bounds-m-place c =
-    let f = few_held _ c.loop-b.invariant.going.neat c.plan_of-plan.ensures.connections_len in
-    omega arith
-
-pub bounds-m-place : goal.bounds-m-place
-bounds-m-place c =
-    let f = few_held _ c.loop-b.invariant.going.neat c.plan_of-plan.ensures.connections_len in
-    omega arith
 
 pub unwrap-requires : goal.unwrap-requires
 unwrap-requires c =

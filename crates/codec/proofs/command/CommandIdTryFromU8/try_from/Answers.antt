@@ -4,9 +4,6 @@ use borrow.Author.Rules.{rules}
 use Rattle.codec.proofs.Commands.{decoded, unknown}
 use Rattle.codec.proofs.command.CommandIdTryFromU8.try_from.Goals as goal
 
-pub by_index_or_name-requires : goal.by_index_or_name-requires
-by_index_or_name-requires c = omega arith
-
 pub returns-in-64 : goal.returns-in-64
 returns-in-64 c = decoded (omega arith)
 

@@ -1,18 +1,11 @@
 -- `SequenceLayerHeader::serialize` meets its contract: four stores are `sequence_bytes` and the rest of the buffer.
 use native.Mathlib.Omega.{arith}
-use lib.ListN.{length-set}
 use Rattle.laws.proofs.Clauses.{value_buffer}
 use Rattle.codec.proofs.WrittenBytes.{write_refused, write_four}
 use Rattle.codec.proofs.sequence.SequenceLayerHeader.serialize.Goals as goal
 
 pub returns-then-buffer-lt4 : goal.returns-then-buffer-lt4
 returns-then-buffer-lt4 c = value_buffer (write_refused _ _ (omega arith))
-
-pub bounds-buffer-1 : goal.bounds-buffer-1
-bounds-buffer-1 c = simp length-set (omega arith)
-
-pub bounds-buffer-2 : goal.bounds-buffer-2
-bounds-buffer-2 c = simp length-set (omega arith)
 
 pub returns : goal.returns
 returns c =

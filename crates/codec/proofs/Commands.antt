@@ -118,7 +118,10 @@ listed place =
     decided (λ x. slice_get command_numbers place ≡ x) (ltb place 13) _ _
     (λ e. slice_get-get_or command_numbers place 0 (ltb-true place 13 e)) (λ e. slice_get_past command_numbers place (ltb-false place 13 e))
 
--- The number of a command that was read stands in its fourth byte.
+-- A command that was read is no refusal, and its number stands in its fourth byte.
+pub read_whole : (f : FoundCommand) (r : Refusal) → ◌≡◌ {A = Result FoundCommand Refusal} (Ok f) (Err r) → ⊥
+read_whole f r e = ok_otherwise _ _ e
+
 same_command : {f g : FoundCommand} → ◌≡◌ {A = Result FoundCommand Refusal} (Ok f) (Ok g) → f.command ≡ g.command
 same_command {f = f} {g = g} e = let z : f ≡ g = cc in rw z
 

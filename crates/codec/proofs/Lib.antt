@@ -4,4 +4,5 @@ pub mod Entries
 pub mod ReadCases
 pub mod Refuses
 pub mod RoundTrips
+pub mod Steps
 pub mod WrittenBytes

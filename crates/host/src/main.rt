@@ -9,25 +9,23 @@
 #![tactic(auto)]
 
 use cell::Cell;
+use client::Client;
 use codec::octets::part;
 use con_rec::{Mode, Now};
-use man_table::types::{STORE_SIZE, SdoClientManager};
-use manager::types::{Answer, OUTPUT_SIZE, SentTo};
+use manager::types::{Answer, SentTo};
 use std::io;
 
 // Count, index, sub-index and size, and the table.
 const TABLE_SIZE: usize = 1461;
 
 mod cell;
+mod client;
 mod print;
 
-// The host: its manager, the store and the output that each call is lent, the cell at the other end of the wire, and the answer to the reply of the
-// last turn, Nothing where none came.
+// The host: its client, the cell at the other end of the wire, and the answer to the reply of the last turn, Nothing where none came.
 #[derive(Drop)]
 struct Host {
-    manager: SdoClientManager,
-    store: [u8; STORE_SIZE],
-    output: [u8; OUTPUT_SIZE],
+    client: Client,
     cell: Cell,
     answer: Answer,
 }
@@ -53,9 +51,7 @@ fn mode_of(node: u8) -> Mode {
 impl Host {
     fn new() -> Host {
         Host {
-            manager: SdoClientManager::new(),
-            store: [0; STORE_SIZE],
-            output: [0; OUTPUT_SIZE],
+            client: Client::new(),
             cell: Cell::new(),
             answer: Answer::Nothing,
         }
@@ -63,15 +59,7 @@ impl Host {
 
     // A job is started: its DCF is copied into the store, and nothing goes out yet.
     fn start(&mut self, rt: &impl Print, node: u8, dcf: &[u8], time: u64) -> io::Result<()> {
-        let (m, store) = (&mut self.manager, &mut self.store);
-        let told = man_lent::start_configuration_download(
-            m,
-            node,
-            mode_of(node),
-            dcf,
-            at(time),
-            store,
-        );
+        let told = self.client.load(node, mode_of(node), dcf, at(time));
         print::told(rt, told, &[])
     }
 
@@ -84,28 +72,16 @@ impl Host {
         sub_index: u8,
         time: u64,
     ) -> io::Result<()> {
-        let (m, store) = (&mut self.manager, &self.store);
-        let told = man_lent::read_object_by_index(
-            m,
-            node,
-            mode_of(node),
-            index,
-            sub_index,
-            at(time),
-            store,
-        );
+        let told = self
+            .client
+            .read(node, mode_of(node), index, sub_index, at(time));
         print::told(rt, told, &[])
     }
 
     // A frame can go out: the manager is asked what is to be sent.
     fn ask(&mut self, rt: &impl Print, time: u64) -> io::Result<Answer> {
-        let told = man_lent::get_pending_request(
-            &mut self.manager,
-            at(time),
-            &self.store,
-            &mut self.output,
-        );
-        print::told(rt, told, &self.output)?;
+        let told = self.client.ask(at(time));
+        print::told(rt, told, &self.client.output)?;
         Ok(told.answer)
     }
 
@@ -113,11 +89,10 @@ impl Host {
     fn answered(&mut self, rt: &impl Print, sent: SentTo) -> io::Result<()> {
         let a = self
             .cell
-            .answer(sent, print::payload_of(sent.command, &self.output));
+            .answer(sent, print::payload_of(sent.command, &self.client.output));
         let payload = print::payload_of(a.command, &a.data);
         print::frame(rt, "from", sent.node, a.sequence, a.command, payload)?;
-        let (m, store) = (&mut self.manager, &mut self.store);
-        let told = man_lent::handle_response(m, sent.node, a.sequence, a.command, payload, store);
+        let told = self.client.reply(sent.node, a.sequence, a.command, payload);
         self.answer = told.answer;
         print::told(rt, told, &[])
     }
@@ -133,13 +108,13 @@ impl Host {
 
     // Nothing came: the clock goes on to the next action time, and tick is called there.
     fn later(&mut self, rt: &impl Print) -> io::Result<()> {
-        let due = man_lent::next_action_time(&self.manager);
+        let due = self.client.next_action_time();
         print::next(rt, due)?;
         let Some(time) = due else {
             return Ok(());
         };
-        let told = man_lent::tick(&mut self.manager, at(time), &self.store, &mut self.output);
-        print::told(rt, told, &self.output)
+        let told = self.client.tick(at(time));
+        print::told(rt, told, &self.client.output)
     }
 
     // A load: a job is started, and then there are as many turns as an opening and two commands take.
@@ -159,7 +134,12 @@ impl Host {
             self.turn(rt, time)?;
         }
         if let Answer::Value(place) = self.answer {
-            print::value(rt, index, sub_index, man_lent::value_in(&self.store, place))?;
+            print::value(
+                rt,
+                index,
+                sub_index,
+                man_lent::value_in(&self.client.store, place),
+            )?;
         }
         Ok(())
     }

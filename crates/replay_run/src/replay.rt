@@ -59,37 +59,7 @@ struct Lent {
     text: [u8; BUFFER_SIZE],
 }
 
-// A record by itself, its line followed by the manager's state.
-fn one_shown(
-    rt: &impl Print,
-    run: Run,
-    p: Parameters,
-    input: &[u8],
-    lent: &mut Lent,
-) -> io::Result<Run> {
-    let b = &input[..input.len().min(RECORD_SIZE)];
-    let after = replayed(run, p, b, lent);
-    if after.progress.read == 0 {
-        return Ok(after);
-    }
-    let shown = written(rt, after, &lent.text)?;
-    print_state(rt, after.manager, after.progress, &lent.store)?;
-    Ok(shown)
-}
-
-fn replayed(run: Run, p: Parameters, input: &[u8], lent: &mut Lent) -> Run {
-    replay_piece(
-        run,
-        p.settings,
-        input,
-        &mut lent.store,
-        &mut lent.gather,
-        &mut lent.output,
-        &mut lent.text,
-    )
-}
-
-// Some records: as many as the text has room for, or one where states are shown.
+// Some records: as many as the text has room for, or one, its line followed by the manager's state, where states are shown.
 fn some(
     rt: &impl Print,
     run: Run,
@@ -97,11 +67,25 @@ fn some(
     input: &[u8],
     lent: &mut Lent,
 ) -> io::Result<Run> {
-    if p.states {
-        return one_shown(rt, run, p, input, lent);
+    let most = if p.states { RECORD_SIZE } else { input.len() };
+    let after = replay_piece(
+        run,
+        p.settings,
+        &input[..input.len().min(most)],
+        &mut lent.store,
+        &mut lent.gather,
+        &mut lent.output,
+        &mut lent.text,
+    );
+    if !p.states {
+        return flushed(rt, after, &lent.text);
     }
-    let after = replayed(run, p, input, lent);
-    flushed(rt, after, &lent.text)
+    if after.progress.read == 0 {
+        return Ok(after);
+    }
+    let shown = written(rt, after, &lent.text)?;
+    print_state(rt, after.manager, after.progress, &lent.store)?;
+    Ok(shown)
 }
 
 // The records of a piece.
